@@ -1,0 +1,72 @@
+// How far two points are apart: the larger of the two differences, which every threshold of the
+// tracker is held against, and the square of the straight line, by which fingers keep their names.
+ghost use mathlib.Core.Path.{_≡_};
+ghost use Prim.Native.Nat.{_*_, _≤_, max};
+ghost use Rattle.panel.specs.Distances.{difference, distance, distance2, distOf, dist2Of};
+use crate::points;
+use crate::points::Point;
+use crate::refusals::Refusal;
+
+// A distance in pixels, or the square of one.
+pub enum DistAnswer {
+    Answered(u32),
+    Refused(Refusal),
+}
+
+// How far two coordinates are apart.
+pub fn gap(a: u16, b: u16) -> u16
+    ensures { λ r. ⌜ r ≡ difference a b ⌝ }
+{
+    if a <= b { b - a } else { a - b }
+}
+
+// The larger of two numbers.
+pub(crate) fn larger(a: u32, b: u32) -> u32
+    ensures { λ r. ⌜ r ≡ max a b ⌝ }
+{
+    if a <= b { b } else { a }
+}
+
+fn square(a: u16) -> u64
+    ensures { λ r. ⌜ (r ≡ a * a) × (r ≤ 4294836225) ⌝ }
+{
+    (a as u64) * (a as u64)
+}
+
+// What dist answers, for points that are known to be on the panel or need not be.
+pub fn apart(p: Point, q: Point) -> u32
+    ensures { λ r. ⌜ r ≡ distance p q ⌝ }
+{
+    larger(gap(p.x, q.x) as u32, gap(p.y, q.y) as u32)
+}
+
+// What dist2 answers, for points that are known to be on the panel or need not be.
+pub fn apart2(p: Point, q: Point) -> u64
+    ensures { λ r. ⌜ r ≡ distance2 p q ⌝ }
+{
+    square(gap(p.x, q.x)) + square(gap(p.y, q.y))
+}
+
+// The larger of the two differences of two points on the panel.
+pub fn dist(p: Point, q: Point) -> DistAnswer
+    ensures { λ r. ⌜ r ≡ distOf p q ⌝ }
+{
+    if points::on_panel(p) {
+        if points::on_panel(q) {
+            return DistAnswer::Answered(apart(p, q));
+        }
+    }
+    DistAnswer::Refused(Refusal::Panel)
+}
+
+// The squared straight-line distance of two points on the panel.
+pub fn dist2(p: Point, q: Point) -> DistAnswer
+    ensures { λ r. ⌜ r ≡ dist2Of p q ⌝ }
+{
+    if points::on_panel(p) {
+        if points::on_panel(q) {
+            return DistAnswer::Answered(apart2(p, q) as u32);
+        }
+    }
+    DistAnswer::Refused(Refusal::Panel)
+}
