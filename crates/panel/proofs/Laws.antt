@@ -1,18 +1,18 @@
 -- The laws of the measures, which the crates above cite in place of the definitions' text: the larger of two
 -- differences, symmetry, and what holds on the panel. Assumes nothing.
+use Prim.Native.Nat.{ℕ, _+_, _-_, _*_, _≤_, _<_, max}
 use mathlib.Core.Path.{_≡_, refl, sym}
 use mathlib.Core.Bool.{Bool, true, false, true≢false}
 use mathlib.Core.List.{List, [], _∷_, map}
-use Prim.Native.Nat.{ℕ, suc, _+_, _-_, _*_, _≤_, _<_, max}
 use native.Mathlib.Omega.{arith}
-use native.Mathlib.Nat.{max-comm, max-le, mul-le-mul, add-comm, div-le-of-le-mul, mul-comm}
-use borrow.Author.Tests.{ltb-true, lt-ltb}
+use native.Mathlib.Nat.{max-le, mul-le-mul, add-comm, div-le-of-le-mul, mul-comm}
 use lib.ListN.{length}
-use Rattle.panel.specs.Tests.{_and_}
-use Rattle.panel.specs.Sizes.{width, height}
-use Rattle.panel.specs.Points.{onPanel, allOnPanel}
+use borrow.Author.Tests.{ltb-true}
+use Rattle.panel.specs.Centroids.{total, mean, middle}
 use Rattle.panel.specs.Distances.{difference, distance, distance2}
-use Rattle.panel.specs.Centroids.{xs, ys, total, mean, middle}
+use Rattle.panel.specs.Points.{onPanel, allOnPanel}
+use Rattle.panel.specs.Sizes.{width, height}
+use Rattle.panel.specs.Tests.{_and_}
 use Rattle.panel.specs.declared.points.Point.{Point}
 use Rattle.panel.proofs.Follow.{follow}
 

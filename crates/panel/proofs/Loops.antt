@@ -1,8 +1,8 @@
 -- What a turn of each loop over the points adds, and what there is after the last. Assumes nothing.
+use Prim.Native.Nat.{ℕ, zero, suc, _+_, _*_, _/_, _≤_, _<_}
 use mathlib.Core.Path.{_≡_, refl}
 use mathlib.Core.Bool.{true}
 use mathlib.Core.List.{List, [], _∷_, map}
-use Prim.Native.Nat.{ℕ, zero, suc, _+_, _*_, _/_, _≤_, _<_}
 use native.Mathlib.Nat.{le-of-suc-le-suc, not-suc-le-zero, zero-add, add-zero, add-assoc, mul-comm, div-le-of-le-mul}
 use native.Mathlib.Numerals.{add-one}
 use native.Mathlib.Omega.{arith}
@@ -10,9 +10,9 @@ use lib.ListN.{length, take, drop, getD, length-take, drop-of-length-le, length-
 use lib.Seq.{drop-cons, getD-take}
 use mir.Syntax.{w16}
 use mir.Val.{Fits}
-use Rattle.panel.specs.Tests.{_and_}
-use Rattle.panel.specs.Points.{onPanel, allOnPanel}
 use Rattle.panel.specs.Centroids.{xs, ys, total, mean, middle}
+use Rattle.panel.specs.Points.{onPanel, allOnPanel}
+use Rattle.panel.specs.Tests.{_and_}
 use Rattle.panel.specs.declared.points.Point.{Point}
 
 module _ {A : Type 0} (f : A → ℕ) where

@@ -1,16 +1,16 @@
 -- The magnitude of a signed number of 32 bits, worked out at 64 bits, where its negation always fits.
 -- Assumes nothing.
+use Prim.Native.Nat.{suc}
 use mathlib.Core.Path.{_≡_}
 use mathlib.Core.Bool.{true, false, true≢false}
-use Prim.Native.Nat.{suc}
 use native.Mathlib.Omega.{arith}
 use native.Mathlib.Nat.{zero-add}
-use borrow.Author.Tests.{ltb-true}
 use lib.Dec.{T}
 use lib.IntN.{ℤ, pos, negsuc, natAbs, _-ℤ_}
 use lib.Signed.{nonNeg, ltZ}
 use mir.Syntax.{w32, w64}
 use mir.Val.{Fits, SFits}
+use borrow.Author.Tests.{ltb-true}
 
 pub widened : {v : ℤ} → SFits w32 v → SFits w64 v
 widened h = record { sfits = omega arith }

@@ -1,20 +1,18 @@
 -- The public calls in document 01's numbers: what each tells for every input, and that its contract leaves no
 -- second answer. Assumes nothing.
+use Prim.Native.Nat.{ℕ}
 use mathlib.Core.Path.{_≡_, refl, sym, _∙_}
 use mathlib.Core.List.{List, [], _∷_, map}
-use Prim.Native.Nat.{ℕ}
 use lib.IntN.{ℤ, natAbs}
-use Rattle.panel.specs.Tests.{if_then_else_, _and_, _≤?_}
-use Rattle.panel.specs.Sizes.{lockWide}
-use Rattle.panel.specs.Refusals.{numberOf, Told}
-use Rattle.panel.specs.Points.{onPanel, allOnPanel, firstPoints}
-use Rattle.panel.specs.Distances.{distance, distance2, distOf, dist2Of, toldDist}
-use Rattle.panel.specs.Centroids.{middle, centroidOf, toldCentroid}
 use Rattle.panel.specs.Axes.{axisOf, lockOf, toldLock}
-use Rattle.panel.specs.declared.points.Point.{Point}
-use Rattle.panel.specs.declared.axes.AxisLock.{AxisLock}
+use Rattle.panel.specs.Centroids.{middle, centroidOf, toldCentroid}
+use Rattle.panel.specs.Distances.{distance, distance2, distOf, dist2Of, toldDist}
+use Rattle.panel.specs.Points.{onPanel, allOnPanel, firstPoints}
+use Rattle.panel.specs.Refusals.{numberOf, Told}
+use Rattle.panel.specs.Sizes.{lockWide}
+use Rattle.panel.specs.Tests.{if_then_else_, _and_, _≤?_}
 use Rattle.panel.specs.declared.axes.AxisLock.the-variants.{Free}
-use Rattle.panel.specs.declared.refusals.Refusal.{Refusal}
+use Rattle.panel.specs.declared.points.Point.{Point}
 use Rattle.panel.specs.declared.refusals.Refusal.the-variants.{State, Panel, Wide, Long, Target, NoFit, Huge, Version, Cut, Form, Big, Kind, File, Room}
 use Rattle.panel.proofs.Follow.{if-of}
 

@@ -4,15 +4,15 @@
 -- ±715,827,882 in either part".
 use Prim.Native.Nat.{ℕ, _*_, max}
 use lib.IntN.{ℤ, natAbs}
-use Rattle.panel.specs.Tests.{if_then_else_, _and_, _≤?_, _<?_}
-use Rattle.panel.specs.Sizes.{lockMax, lockWide}
 use Rattle.panel.specs.Refusals.{Told, answered, refused}
-use Rattle.panel.specs.declared.refusals.Refusal.the-variants.{Wide}
+use Rattle.panel.specs.Sizes.{lockMax, lockWide}
+use Rattle.panel.specs.Tests.{if_then_else_, _and_, _≤?_, _<?_}
 use Rattle.panel.specs.declared.axes.Axis.the-variants.{H, «V»}
 use Rattle.panel.specs.declared.axes.AxisLock.{AxisLock}
 use Rattle.panel.specs.declared.axes.AxisLock.the-variants.{Free, On}
 use Rattle.panel.specs.declared.axes.LockAnswer.{LockAnswer}
 use Rattle.panel.specs.declared.axes.LockAnswer.the-variants.{Answered, Refused}
+use Rattle.panel.specs.declared.refusals.Refusal.the-variants.{Wide}
 
 -- of a drag by ax along x and ay along y, whichever way
 unfoldable pub axisOf : ℕ → ℕ → AxisLock

@@ -5,13 +5,13 @@
 use Prim.Native.Nat.{ℕ, _+_, _/_}
 use mathlib.Core.List.{List, [], _∷_, map}
 use lib.ListN.{length}
-use Rattle.panel.specs.Tests.{if_then_else_}
-use Rattle.panel.specs.Refusals.{Told, answered, refused}
 use Rattle.panel.specs.Points.{allOnPanel, firstPoints}
-use Rattle.panel.specs.declared.points.Point.{Point}
-use Rattle.panel.specs.declared.refusals.Refusal.the-variants.{Panel}
+use Rattle.panel.specs.Refusals.{Told, answered, refused}
+use Rattle.panel.specs.Tests.{if_then_else_}
 use Rattle.panel.specs.declared.middle.CentroidAnswer.{CentroidAnswer}
 use Rattle.panel.specs.declared.middle.CentroidAnswer.the-variants.{Answered, Refused}
+use Rattle.panel.specs.declared.points.Point.{Point}
+use Rattle.panel.specs.declared.refusals.Refusal.the-variants.{Panel}
 
 abbrev pub xs : List Point → List ℕ
 xs ps = map (λ p. p .x) ps

@@ -3,13 +3,13 @@
 -- "far is the largest max(|dx|,|dy|)" of the touch: that is `dist`. "keep the order if its squared travel is not larger":
 -- that is `dist2`. "Geometry calls answer PANEL for a point off the panel".
 use Prim.Native.Nat.{ℕ, _+_, _-_, _*_, max}
-use Rattle.panel.specs.Tests.{if_then_else_, _and_}
-use Rattle.panel.specs.Refusals.{Told, answered, refused}
 use Rattle.panel.specs.Points.{onPanel}
-use Rattle.panel.specs.declared.points.Point.{Point}
-use Rattle.panel.specs.declared.refusals.Refusal.the-variants.{Panel}
+use Rattle.panel.specs.Refusals.{Told, answered, refused}
+use Rattle.panel.specs.Tests.{if_then_else_, _and_}
 use Rattle.panel.specs.declared.distances.DistAnswer.{DistAnswer}
 use Rattle.panel.specs.declared.distances.DistAnswer.the-variants.{Answered, Refused}
+use Rattle.panel.specs.declared.points.Point.{Point}
+use Rattle.panel.specs.declared.refusals.Refusal.the-variants.{Panel}
 
 -- |a - b|: on ℕ a difference stops at 0, so that one of the two parts is 0
 unfoldable pub difference : ℕ → ℕ → ℕ

@@ -6,8 +6,8 @@ use Prim.Native.Nat.{ℕ, min}
 use mathlib.Core.Bool.{Bool, true}
 use mathlib.Core.List.{List, [], _∷_}
 use lib.ListN.{take}
-use Rattle.panel.specs.Tests.{_and_, _<?_}
 use Rattle.panel.specs.Sizes.{width, height, maxPoints}
+use Rattle.panel.specs.Tests.{_and_, _<?_}
 use Rattle.panel.specs.declared.points.Point.{Point}
 
 unfoldable pub onPanel : Point → Bool

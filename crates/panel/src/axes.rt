@@ -25,14 +25,14 @@ pub enum LockAnswer {
     Refused(Refusal),
 }
 
-// A diagonal drag takes its larger part from here on, pixels.
+// A drag on a slant takes its larger part once that is over this, pixels.
 const LOCK_MAX: u32 = 30;
 
 // The largest part of a drag whose threefold is an i32, as the Rust computes it.
 const LOCK_WIDE: u32 = 715_827_882;
 
 // How far a number is from 0. It is negated at 64 bits, where the most negative one has a negation.
-fn magnitude(v: i32) -> u32
+pub fn magnitude(v: i32) -> u32
     ensures { λ r. ⌜ r ≡ natAbs v ⌝ }
 {
     if v < 0 {

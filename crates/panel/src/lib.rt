@@ -12,6 +12,7 @@ pub use axes::AxisLock;
 pub use axes::LockAnswer;
 pub use axes::axis_along;
 pub use axes::lock_axis;
+pub use axes::magnitude;
 pub use distances::DistAnswer;
 pub use distances::apart;
 pub use distances::apart2;

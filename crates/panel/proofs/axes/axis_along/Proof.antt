@@ -1,6 +1,7 @@
-use Rattle.panel.proofs.Follow.{follow}
-use Rattle.panel.specs.Axes.{axisOf}
+-- `axis_along` meets its contract: each answer by the tests that led to it. Assumes nothing.
 use borrow.Author.Needs.{needs}
+use Rattle.panel.specs.Axes.{axisOf}
+use Rattle.panel.proofs.Follow.{follow}
 use Rattle.panel.proofs.axes.axis_along.Statement.{statement}
 use Rattle.panel.proofs.axes.axis_along.Tie as tie
 

@@ -1,10 +1,11 @@
-use Rattle.panel.proofs.Magnitudes.{widened, turned, turned-is, turned-cast, kept-cast}
+-- `magnitude` meets its contract. A signed local holds bits, so that `toZ-ofZ` reads each number back. Assumes nothing.
 use mathlib.Core.Path.{_≡_}
 use mathlib.Core.Bool.{true, false}
 use lib.IntN.{pos}
 use lib.Signed.{ltZ}
 use mir.Facts.{toZ-ofZ}
 use borrow.Author.Needs.{needs}
+use Rattle.panel.proofs.Magnitudes.{widened, turned, turned-is, turned-cast, kept-cast}
 use Rattle.panel.proofs.axes.magnitude.Statement.{statement}
 use Rattle.panel.proofs.axes.magnitude.Tie as tie
 

@@ -1,6 +1,7 @@
-use Rattle.panel.proofs.Follow.{follow}
-use Rattle.panel.specs.Distances.{distance}
+-- `apart` meets its contract: the larger of the two gaps. Assumes nothing.
 use borrow.Author.Needs.{needs}
+use Rattle.panel.specs.Distances.{distance}
+use Rattle.panel.proofs.Follow.{follow}
 use Rattle.panel.proofs.distances.apart.Statement.{statement}
 use Rattle.panel.proofs.distances.apart.Tie as tie
 

@@ -1,5 +1,6 @@
-use Rattle.panel.specs.Distances.{distance2}
+-- `apart2` meets its contract: the two squares, added. Assumes nothing.
 use borrow.Author.Needs.{needs}
+use Rattle.panel.specs.Distances.{distance2}
 use Rattle.panel.proofs.distances.apart2.Statement.{statement}
 use Rattle.panel.proofs.distances.apart2.Tie as tie
 

@@ -1,6 +1,7 @@
-use Rattle.panel.proofs.Follow.{follow}
-use Rattle.panel.specs.Distances.{distOf}
+-- `dist` meets its contract: an answer where both points are on the panel, and a refusal elsewhere. Assumes nothing.
 use borrow.Author.Needs.{needs}
+use Rattle.panel.specs.Distances.{distOf}
+use Rattle.panel.proofs.Follow.{follow}
 use Rattle.panel.proofs.distances.dist.Statement.{statement}
 use Rattle.panel.proofs.distances.dist.Tie as tie
 

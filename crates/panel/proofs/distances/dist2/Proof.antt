@@ -1,9 +1,10 @@
-use mathlib.Core.Path.{_≡_, sym, _∙_}
-use Rattle.panel.proofs.Laws.{distance2-on-panel}
+-- `dist2` meets its contract, as `dist` does; on the panel the square fits 32 bits. Assumes nothing.
+use mathlib.Core.Path.{sym, _∙_}
 use native.Mathlib.Omega.{arith}
-use Rattle.panel.proofs.Follow.{follow}
-use Rattle.panel.specs.Distances.{dist2Of}
 use borrow.Author.Needs.{needs}
+use Rattle.panel.specs.Distances.{dist2Of}
+use Rattle.panel.proofs.Follow.{follow}
+use Rattle.panel.proofs.Laws.{distance2-on-panel}
 use Rattle.panel.proofs.distances.dist2.Statement.{statement}
 use Rattle.panel.proofs.distances.dist2.Tie as tie
 

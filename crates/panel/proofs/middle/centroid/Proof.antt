@@ -1,6 +1,7 @@
-use Rattle.panel.proofs.Follow.{follow}
-use Rattle.panel.specs.Centroids.{centroidOf}
+-- `centroid` meets its contract: an answer where the points in use are on the panel, and a refusal elsewhere. Assumes nothing.
 use borrow.Author.Needs.{needs}
+use Rattle.panel.specs.Centroids.{centroidOf}
+use Rattle.panel.proofs.Follow.{follow}
 use Rattle.panel.proofs.middle.centroid.Statement.{statement}
 use Rattle.panel.proofs.middle.centroid.Tie as tie
 

@@ -1,10 +1,11 @@
-use Rattle.panel.proofs.Loops.{share, middle-none, middle-some}
+-- `middle_of` meets its contract: (0, 0) for none, else the totals shared out. Assumes nothing.
 use Prim.Native.Nat.{ℕ, _/_, _<_, _≤_}
-use lib.ListN.{length, take}
+use mathlib.Core.Path.{sym, ap, _∙_}
 use native.Mathlib.Omega.{arith}
-use mathlib.Core.Path.{_≡_, sym, ap, _∙_}
-use Rattle.panel.specs.Centroids.{middle}
+use lib.ListN.{length, take}
 use borrow.Author.Needs.{needs}
+use Rattle.panel.specs.Centroids.{middle}
+use Rattle.panel.proofs.Loops.{share, middle-none, middle-some}
 use Rattle.panel.proofs.middle.middle_of.Statement.{statement}
 use Rattle.panel.proofs.middle.middle_of.Tie as tie
 

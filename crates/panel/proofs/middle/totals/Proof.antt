@@ -1,11 +1,12 @@
-use mathlib.Core.Path.{_≡_, sym, ap, _∙_}
+-- `totals` meets its contract. The loop's invariant: the totals of the points passed, each at most 65535 a point. Assumes nothing.
 use Prim.Native.Nat.{ℕ, _+_, _*_, _-_, _≤_, _<_}
-use borrow.Author.Needs.{needs}
-use Rattle.panel.specs.Centroids.{xs, ys, total}
-use Rattle.panel.proofs.Loops.{total-more}
+use mathlib.Core.Path.{_≡_, sym, ap, _∙_}
 use native.Mathlib.Omega.{arith}
 use lib.ListN.{length, take, getD}
+use borrow.Author.Needs.{needs}
+use Rattle.panel.specs.Centroids.{xs, ys, total}
 use Rattle.panel.specs.declared.points.Point.{Point}
+use Rattle.panel.proofs.Loops.{total-more}
 use Rattle.panel.proofs.middle.totals.Statement.{statement}
 use Rattle.panel.proofs.middle.totals.Tie as tie
 

@@ -1,17 +1,18 @@
-use Rattle.panel.proofs.Loops.{all-more, all-none}
-use Rattle.panel.proofs.Follow.{and-true, and-false}
+-- `all_on_panel` meets its contract. The loop's invariant: what is left decides, the points passed being on the panel. Assumes nothing.
+use Prim.Native.Nat.{_-_, _≤_}
 use mathlib.Core.Path.{_≡_, sym, ap, _∙_}
-use borrow.Author.Needs.{needs}
-use Rattle.panel.proofs.Follow.{follow}
-use Rattle.panel.specs.Points.{allOnPanel, firstPoints, fingers}
 use native.Mathlib.Omega.{arith}
-use Prim.Native.Nat.{_*_, _-_, _≤_, _<_}
-use lib.ListN.{length, take, drop, getD}
+use lib.ListN.{take, drop}
+use borrow.Author.Needs.{needs}
+use Rattle.panel.specs.Points.{allOnPanel, fingers}
+use Rattle.panel.specs.Sizes.{maxPoints}
+use Rattle.panel.proofs.Follow.{and-true, and-false}
+use Rattle.panel.proofs.Loops.{all-more, all-none}
 use Rattle.panel.proofs.points.all_on_panel.Statement.{statement}
 use Rattle.panel.proofs.points.all_on_panel.Tie as tie
 
 abbrev Inv-loop : tie.InvT-loop
-Inv-loop count pts n i₀ i = (i ≤ n) × (n ≡ fingers count) × (n ≤ 5) × (allOnPanel (take n pts) ≡ allOnPanel (drop i (take n pts)))
+Inv-loop count pts n i₀ i = (i ≤ n) × (n ≡ fingers count) × (n ≤ maxPoints) × (allOnPanel (take n pts) ≡ allOnPanel (drop i (take n pts)))
 
 abbrev μ-loop : tie.MeasureT-loop
 μ-loop count pts n i₀ i = n - i

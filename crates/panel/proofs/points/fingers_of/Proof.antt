@@ -1,3 +1,4 @@
+-- `fingers_of` meets its contract: the smaller of the count and five. Assumes nothing.
 use borrow.Author.Needs.{needs}
 use Rattle.panel.specs.Points.{fingers}
 use Rattle.panel.proofs.points.fingers_of.Statement.{statement}

@@ -1,5 +1,6 @@
-use Rattle.panel.proofs.Follow.{follow}
+-- `on_panel` meets its contract: both coordinates below their limits. Assumes nothing.
 use Rattle.panel.specs.Points.{onPanel}
+use Rattle.panel.proofs.Follow.{follow}
 use Rattle.panel.proofs.points.on_panel.Statement.{statement}
 use Rattle.panel.proofs.points.on_panel.Tie as tie
 
