@@ -42,4 +42,10 @@ unfolding if_then_else_
 if-of f true x y = refl
 if-of f false x y = refl
 
+-- what holds of each side of a choice, where its test goes that way, holds of the choice
+pub if-know : {A : Type 0} (P : A → Type 0) (b : Bool) (x y : A) → (b ≡ true → P x) → (b ≡ false → P y) → P (if_then_else_ b x y)
+unfolding if_then_else_
+if-know P true x y yes-x no-y = yes-x refl
+if-know P false x y yes-x no-y = no-y refl
+
 pub ruleset follow = (if-true, if-false, and-true, and-false, or-true, or-false, not-true, not-false, lt-ltb, le-ltb, le-leb, lt-leb, eq-eqb, ne-eqb)
