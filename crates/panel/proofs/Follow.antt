@@ -48,4 +48,10 @@ unfolding if_then_else_
 if-know P true x y yes-x no-y = yes-x refl
 if-know P false x y yes-x no-y = no-y refl
 
+-- two choices by one test
+pub if-two : {A B : Type 0} (P : A → B → Type 0) (b : Bool) (x y : A) (u v : B) → (b ≡ true → P x u) → (b ≡ false → P y v) → P (if_then_else_ b x y) (if_then_else_ b u v)
+unfolding if_then_else_
+if-two P true x y u v yes-x no-y = yes-x refl
+if-two P false x y u v yes-x no-y = no-y refl
+
 pub ruleset follow = (if-true, if-false, and-true, and-false, or-true, or-false, not-true, not-false, lt-ltb, le-ltb, le-leb, lt-leb, eq-eqb, ne-eqb)
