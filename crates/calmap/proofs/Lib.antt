@@ -2,3 +2,5 @@
 mod Signed
 mod Chains
 mod Floors
+mod Rooted
+mod Newton
