@@ -4,3 +4,8 @@ mod Chains
 mod Floors
 mod Rooted
 mod Newton
+mod Walking
+mod Tallying
+mod Bounds
+mod Judging
+mod Firsts
