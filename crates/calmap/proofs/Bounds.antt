@@ -1,32 +1,30 @@
 -- How large the answers are: where a point lands that `apply16` answers, and how far a tap then is from its target. So
 -- 64 distances have a sum in u32, and no sum of `resid` is WIDE. Assumes nothing.
-use mathlib.Core.Path.{_≡_, refl, sym, ap, subst, _∙_}
+use Prim.Native.Nat.{ℕ, _*_, _/_, _^_, _≤_, _<_}
+use mathlib.Core.Path.{_≡_, refl}
 use mathlib.Core.Bool.{Bool, true, false}
-use Prim.Native.Nat.{ℕ, suc, _+_, _*_, _/_, _^_, _≤_, _<_}
 use native.Mathlib.Nat.{mul-le-mul}
 use native.Mathlib.Omega.{arith}
-use borrow.Author.Tests.{ltb-true}
-use lib.IntN.{ℤ, pos, natAbs, _-ℤ_, _*ℤ_}
+use lib.IntN.{ℤ, pos, _-ℤ_, _*ℤ_}
 use lib.Signed.{mag, natAbs-le}
+use borrow.Author.Tests.{ltb-true}
+use Rattle.panel.proofs.Laws.{and-left, and-right}
 use Rattle.panel.specs.Tests.{if_then_else_}
 use Rattle.panel.specs.declared.refusals.Refusal.the-variants as Refusal
-use Rattle.panel.proofs.Laws.{and-left, and-right}
+use Rattle.calmap.specs.Checked.{farthest}
+use Rattle.calmap.specs.Distances.{squared, tenthsOf, tenths, dist10Of, toldDist10}
+use Rattle.calmap.specs.Maps.{line, lineFits, applyOf}
+use Rattle.calmap.specs.Resids.{inSixteenths}
 use Rattle.calmap.specs.Sizes.{end32, tenthsIn, sixteenthsIn, twelve}
 use Rattle.calmap.specs.Wide.{in32, down}
-use Rattle.calmap.specs.Maps.{line, lineFits, sixteenths, spot, applyOf}
-use Rattle.calmap.specs.Roots.{rootOf}
-use Rattle.calmap.specs.Distances.{squared, tenthsOf, tenths, dist10Of, toldDist10}
-use Rattle.calmap.specs.Resids.{inSixteenths}
-use Rattle.calmap.specs.Checked.{farthest}
+use Rattle.calmap.specs.declared.gaps.Dist10Answer.the-variants as Dist10
+use Rattle.calmap.specs.declared.mapping.ApplyAnswer.the-variants as Apply
+use Rattle.calmap.specs.declared.mapping.Spot.{Spot}
 use Rattle.calmap.specs.declared.units.Cal.{Cal}
 use Rattle.calmap.specs.declared.units.Q16.{Q16}
-use Rattle.calmap.specs.declared.units.Sixteenths.{Sixteenths}
-use Rattle.calmap.specs.declared.mapping.Spot.{Spot}
-use Rattle.calmap.specs.declared.mapping.ApplyAnswer.the-variants as Apply
-use Rattle.calmap.specs.declared.gaps.Dist10Answer.the-variants as Dist10
-use Rattle.calmap.proofs.Signed.{mag-sub, mag-mul}
 use Rattle.calmap.proofs.Floors.{down-size}
 use Rattle.calmap.proofs.Rooted.{root-at-most}
+use Rattle.calmap.proofs.Signed.{mag-sub, mag-mul}
 
 -- Where a point lands: 19 bits each way.
 

@@ -6,8 +6,8 @@ use mir.Syntax.{w32, w64}
 use mir.Val.{toZ, ofZ, SFits}
 use mir.ValLaws.{toZ-ofZ}
 use Rattle.calmap.specs.declared.checked.Narrow.the-variants.{In}
-use Rattle.calmap.proofs.Signed.{below-low, above-high, between}
 use Rattle.calmap.proofs.Chains.{narrow-in, narrow-out}
+use Rattle.calmap.proofs.Signed.{below-low, above-high, between}
 use Rattle.calmap.proofs.checked.fit32.Statement.{statement}
 use Rattle.calmap.proofs.checked.fit32.Tie as tie
 

@@ -1,8 +1,8 @@
-use borrow.Author.Needs.{needs}
-use mathlib.Core.Path.{_≡_, _∙_, ap}
+use mathlib.Core.Path.{_≡_, _∙_}
 use lib.IntN.{ℤ, _+ℤ_}
 use mir.Syntax.{w32}
 use mir.Val.{toZ, ofZ}
+use borrow.Author.Needs.{needs}
 use Rattle.calmap.specs.Checked.{narrowOf, plusOf}
 use Rattle.calmap.proofs.checked.plus.Statement.{statement}
 use Rattle.calmap.proofs.checked.plus.Tie as tie

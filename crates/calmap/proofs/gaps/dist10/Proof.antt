@@ -1,16 +1,14 @@
-use borrow.Author.Needs.{needs}
-use mathlib.Core.Path.{_≡_, sym, ap, _∙_}
-use mathlib.Core.Bool.{true, false}
-use Prim.Native.Nat.{ℕ, _+_, _*_}
-use lib.IntN.{ℤ, natAbs, _-ℤ_}
+use Prim.Native.Nat.{_+_, _*_}
+use mathlib.Core.Path.{sym, ap, _∙_}
+use lib.IntN.{ℤ, natAbs}
 use mir.Syntax.{w32}
 use mir.Val.{SFits}
+use borrow.Author.Needs.{needs}
 use Rattle.panel.proofs.Follow.{if-true, if-false, and-true, and-false}
-use Rattle.calmap.specs.Wide.{in32}
 use Rattle.calmap.specs.Distances.{squared, tenths, tenthsOf, dist10Of}
 use Rattle.calmap.specs.declared.gaps.Dist10Answer.the-variants.{Answered}
-use Rattle.calmap.proofs.Signed.{plain}
 use Rattle.calmap.proofs.Chains.{narrow-fits, narrow-is, narrow-leaves}
+use Rattle.calmap.proofs.Signed.{plain}
 use Rattle.calmap.proofs.gaps.dist10.Statement.{statement}
 use Rattle.calmap.proofs.gaps.dist10.Tie as tie
 

@@ -1,16 +1,16 @@
+use Prim.Native.Nat.{ℕ, _+_, _-_, _≤_, _<_}
 use mathlib.Core.Path.{_≡_, refl, sym, ap, _∙_}
 use mathlib.Core.List.{List, [], _∷_, _++_}
-use Prim.Native.Nat.{ℕ, _+_, _-_, _≤_, _<_}
 use native.Mathlib.Numerals.{add-one}
 use native.Mathlib.Omega.{arith}
-use borrow.Author.Needs.{needs}
 use lib.ListN.{length, take, getD, set, length-set}
 use lib.Seq.{take-suc, take-suc-set}
-use Rattle.calmap.specs.Sizes.{longest}
-use Rattle.calmap.specs.Resids.{pairsOf}
+use borrow.Author.Needs.{needs}
 use Rattle.calmap.specs.Held.{tap0}
-use Rattle.calmap.specs.declared.units.Tap.{Tap}
+use Rattle.calmap.specs.Resids.{pairsOf}
+use Rattle.calmap.specs.Sizes.{longest}
 use Rattle.calmap.specs.declared.units.Pair.{Pair}
+use Rattle.calmap.specs.declared.units.Tap.{Tap}
 use Rattle.calmap.proofs.Holding.{pairs-length, pairs-at, take-all}
 use Rattle.calmap.proofs.held.side_by_side.Statement.{statement}
 use Rattle.calmap.proofs.held.side_by_side.Tie as tie

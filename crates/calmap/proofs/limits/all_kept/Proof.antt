@@ -1,13 +1,13 @@
+use Prim.Native.Nat.{ℕ, _-_, _≤_}
 use mathlib.Core.Path.{_≡_, refl, sym, ap, _∙_}
-use Prim.Native.Nat.{ℕ, _-_, _≤_, _<_}
 use native.Mathlib.Omega.{arith}
+use lib.ListN.{take, drop}
 use borrow.Author.Needs.{needs}
-use lib.ListN.{length, take, drop}
-use Rattle.panel.specs.Tests.{_and_}
 use Rattle.panel.proofs.Follow.{and-true, and-false}
-use Rattle.calmap.proofs.Walking.{walk-more, walked}
+use Rattle.panel.specs.Tests.{_and_}
 use Rattle.calmap.specs.Checks.{stays, allStay}
 use Rattle.calmap.proofs.Judging.{stay-cons, stay-none}
+use Rattle.calmap.proofs.Walking.{walk-more, walked}
 use Rattle.calmap.proofs.limits.all_kept.Statement.{statement}
 use Rattle.calmap.proofs.limits.all_kept.Tie as tie
 

@@ -1,7 +1,5 @@
+use mathlib.Core.Path.{sym, ap, _∙_}
 use borrow.Author.Needs.{needs}
-use mathlib.Core.Path.{_≡_, sym, ap, _∙_}
-use Prim.Native.Nat.{_≤_}
-use native.Mathlib.Omega.{arith}
 use Rattle.panel.proofs.Follow.{if-true, if-false}
 use Rattle.calmap.specs.declared.limits.CheckAnswer.the-variants.{Answered}
 use Rattle.calmap.proofs.Firsts.{check-long, check-first}

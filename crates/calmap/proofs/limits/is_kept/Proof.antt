@@ -1,11 +1,11 @@
-use borrow.Author.Needs.{needs}
 use mathlib.Core.Path.{_≡_, sym, _∙_}
 use lib.IntN.{pos}
 use mir.Syntax.{w32}
 use mir.Val.{SFits}
+use borrow.Author.Needs.{needs}
 use Rattle.panel.proofs.Follow.{and-true, and-false}
-use Rattle.calmap.specs.Maps.{applyOf}
 use Rattle.calmap.specs.Checks.{stays}
+use Rattle.calmap.specs.Maps.{applyOf}
 use Rattle.calmap.proofs.Signed.{plain}
 use Rattle.calmap.proofs.limits.is_kept.Statement.{statement}
 use Rattle.calmap.proofs.limits.is_kept.Tie as tie

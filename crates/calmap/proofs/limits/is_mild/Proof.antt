@@ -1,12 +1,12 @@
-use borrow.Author.Needs.{needs}
 use mathlib.Core.Path.{_≡_, sym, ap, subst, _∙_}
 use mathlib.Core.Bool.{true, false}
 use lib.IntN.{ℤ, pos, negsuc}
 use lib.Signed.{ltZ, leZ}
 use mir.Syntax.{w32}
 use mir.Val.{toZ, ofZ}
-use Rattle.calmap.specs.Sizes.{scaleLimit}
+use borrow.Author.Needs.{needs}
 use Rattle.calmap.specs.Checks.{mild}
+use Rattle.calmap.specs.Sizes.{scaleLimit}
 use Rattle.calmap.proofs.Signed.{abs-over, abs-up-to}
 use Rattle.calmap.proofs.limits.is_mild.Statement.{statement}
 use Rattle.calmap.proofs.limits.is_mild.Tie as tie

@@ -1,13 +1,12 @@
-use borrow.Author.Needs.{needs}
 use mathlib.Core.Path.{_≡_, sym, ap, _∙_}
 use mathlib.Core.Bool.{true, false}
-use lib.IntN.{ℤ}
+use borrow.Author.Needs.{needs}
 use Rattle.panel.proofs.Follow.{if-false, and-true, and-false}
-use Rattle.calmap.specs.Wide.{in16}
-use Rattle.calmap.specs.Maps.{applyOf}
 use Rattle.calmap.specs.Checked.{lineOf, spotOf}
-use Rattle.calmap.proofs.Signed.{plain}
+use Rattle.calmap.specs.Maps.{applyOf}
+use Rattle.calmap.specs.Wide.{in16}
 use Rattle.calmap.proofs.Chains.{apply-chain}
+use Rattle.calmap.proofs.Signed.{plain}
 use Rattle.calmap.proofs.mapping.apply16.Statement.{statement}
 use Rattle.calmap.proofs.mapping.apply16.Tie as tie
 

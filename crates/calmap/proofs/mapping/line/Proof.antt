@@ -1,10 +1,10 @@
-use borrow.Author.Needs.{needs}
-use mathlib.Core.Path.{_≡_, ap, _∙_}
+use mathlib.Core.Path.{ap, _∙_}
 use lib.IntN.{ℤ, pos, _*ℤ_}
-use Rattle.calmap.specs.Sizes.{one}
+use borrow.Author.Needs.{needs}
 use Rattle.calmap.specs.Checked.{narrowOf, plusOf}
-use Rattle.calmap.proofs.Signed.{plain}
+use Rattle.calmap.specs.Sizes.{one}
 use Rattle.calmap.proofs.Chains.{line-chain}
+use Rattle.calmap.proofs.Signed.{plain}
 use Rattle.calmap.proofs.mapping.line.Statement.{statement}
 use Rattle.calmap.proofs.mapping.line.Tie as tie
 

@@ -1,8 +1,8 @@
-use borrow.Author.Needs.{needs}
 use mir.Syntax.{w32}
 use mir.Val.{SFits}
-use Rattle.calmap.specs.Sizes.{twelve}
+use borrow.Author.Needs.{needs}
 use Rattle.calmap.specs.Checked.{spotOf}
+use Rattle.calmap.specs.Sizes.{twelve}
 use Rattle.calmap.proofs.Floors.{shift-is}
 use Rattle.calmap.proofs.mapping.spot_at.Statement.{statement}
 use Rattle.calmap.proofs.mapping.spot_at.Tie as tie

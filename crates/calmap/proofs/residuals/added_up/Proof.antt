@@ -1,19 +1,18 @@
+use Prim.Native.Nat.{ℕ, _+_, _*_, _-_, _≤_}
 use mathlib.Core.Path.{_≡_, refl, sym, ap, subst, _∙_}
-use Prim.Native.Nat.{ℕ, _+_, _*_, _-_, _≤_, _<_, max}
 use native.Mathlib.Omega.{arith}
-use borrow.Author.Needs.{needs}
 use lib.IntN.{pos}
-use lib.ListN.{length, take, drop, getD}
+use lib.ListN.{take, drop}
+use borrow.Author.Needs.{needs}
+use Rattle.calmap.specs.Checked.{farthest, tallyOf}
 use Rattle.calmap.specs.Distances.{toldDist10}
 use Rattle.calmap.specs.Resids.{Misses, besides, missOf, missesOf}
-use Rattle.calmap.specs.Checked.{farthest, tallyOf}
+use Rattle.calmap.specs.declared.gaps.Dist10Answer.{Dist10Answer}
+use Rattle.calmap.specs.declared.gaps.Dist10Answer.the-variants.{Answered}
 use Rattle.calmap.specs.declared.units.Pair.{Pair}
 use Rattle.calmap.specs.declared.units.Tenths.{Tenths}
-use Rattle.calmap.specs.declared.gaps.Dist10Answer.the-variants.{Answered}
-use Rattle.calmap.specs.declared.gaps.Dist10Answer.{Dist10Answer}
-use Rattle.calmap.specs.declared.residuals.Tally.{Tally}
-use Rattle.calmap.proofs.Walking.{walk-more, walked}
 use Rattle.calmap.proofs.Tallying.{misses-cons, tally-more, tally-stops, tally-none}
+use Rattle.calmap.proofs.Walking.{walk-more, walked}
 use Rattle.calmap.proofs.residuals.added_up.Statement.{statement}
 use Rattle.calmap.proofs.residuals.added_up.Tie as tie
 

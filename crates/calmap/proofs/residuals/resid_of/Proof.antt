@@ -1,12 +1,11 @@
-use borrow.Author.Needs.{needs}
-use mathlib.Core.Path.{_≡_, refl, sym, ap, subst, _∙_}
-use Prim.Native.Nat.{ℕ, _≤_, _<_}
+use Prim.Native.Nat.{ℕ, _<_}
+use mathlib.Core.Path.{sym, ap, _∙_}
 use native.Mathlib.Omega.{arith}
-use lib.ListN.{length, take, length-take}
-use Rattle.calmap.specs.Resids.{missesOf, spreadOf, spread}
-use Rattle.calmap.specs.declared.residuals.Tally.{Tally}
-use Rattle.calmap.proofs.Tallying.{shared, spread-of-sums, spread-none}
+use lib.ListN.{take, length-take}
+use borrow.Author.Needs.{needs}
+use Rattle.calmap.specs.Resids.{missesOf, spreadOf}
 use Rattle.calmap.proofs.Firsts.{resid-long, resid-first}
+use Rattle.calmap.proofs.Tallying.{shared, spread-of-sums, spread-none}
 use Rattle.calmap.proofs.residuals.resid_of.Statement.{statement}
 use Rattle.calmap.proofs.residuals.resid_of.Tie as tie
 

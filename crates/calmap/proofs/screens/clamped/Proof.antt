@@ -1,10 +1,10 @@
-use borrow.Author.Needs.{needs}
-use mathlib.Core.Path.{_≡_, sym, ap, subst, _∙_}
-use mathlib.Core.Bool.{true, false}
-use lib.IntN.{ℤ, pos, natAbs}
+use mathlib.Core.Path.{_≡_, sym}
+use mathlib.Core.Bool.{false}
+use lib.IntN.{pos}
 use lib.Signed.{ltZ}
-use Rattle.calmap.proofs.Signed.{plain}
+use borrow.Author.Needs.{needs}
 use Rattle.calmap.proofs.Floors.{clamp-below, from-zero, clamp-within, clamp-above}
+use Rattle.calmap.proofs.Signed.{plain}
 use Rattle.calmap.proofs.screens.clamped.Statement.{statement}
 use Rattle.calmap.proofs.screens.clamped.Tie as tie
 

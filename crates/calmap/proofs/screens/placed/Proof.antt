@@ -1,12 +1,12 @@
-use borrow.Author.Needs.{needs}
-use mathlib.Core.Path.{_≡_, ap, _∙_}
 use Prim.Native.Nat.{_-_}
+use mathlib.Core.Path.{ap, _∙_}
 use lib.IntN.{ℤ}
 use mir.Syntax.{w32}
 use mir.Val.{SFits}
+use borrow.Author.Needs.{needs}
 use Rattle.panel.specs.Sizes.{width, height}
-use Rattle.calmap.specs.Screening.{moved}
 use Rattle.calmap.specs.Checked.{placedOf}
+use Rattle.calmap.specs.Screening.{moved}
 use Rattle.calmap.specs.declared.screens.ScreenAnswer.the-variants.{Answered}
 use Rattle.calmap.proofs.Signed.{plain}
 use Rattle.calmap.proofs.screens.placed.Statement.{statement}

@@ -1,11 +1,11 @@
-use borrow.Author.Needs.{needs}
 use mathlib.Core.Path.{_≡_, ap, _∙_}
 use lib.IntN.{ℤ, pos, _+ℤ_}
 use mir.Syntax.{w32}
-use mir.Val.{toZ, ofZ, SFits}
+use mir.Val.{SFits}
+use borrow.Author.Needs.{needs}
+use Rattle.calmap.specs.Screening.{clamp, moved}
 use Rattle.calmap.specs.Sizes.{sixteen}
 use Rattle.calmap.specs.Wide.{down}
-use Rattle.calmap.specs.Screening.{clamp, moved}
 use Rattle.calmap.proofs.Signed.{plain}
 use Rattle.calmap.proofs.screens.shifted.Statement.{statement}
 use Rattle.calmap.proofs.screens.shifted.Tie as tie
