@@ -32,7 +32,8 @@ add-requires c κs = search needs
 
 returns-3 : tie.Need-returns-3
 unfolding plusOf
-returns-3 c = let x = c .before .before .before .before .before .a .given .0 .0 in
+returns-3 c =
+    let x = c .before .before .before .before .before .a .given .0 .0 in
     let y = c .before .before .b .given .0 .0 in
     let ex : toZ w32 (ofZ w32 x) ≡ x = search needs in
     let ey : toZ w32 (ofZ w32 y) ≡ y = search needs in

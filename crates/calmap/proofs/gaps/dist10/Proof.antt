@@ -36,7 +36,8 @@ enum-told-2 c = search needs
 
 returns-2 : tie.Need-returns-2
 unfolding dist10Of
-returns-2 c = let x = narrow-fits _ _ (sym (c .before .before .before .before .before .before .minus .ensures) ∙ c .before .before .before .before .dx .given .1) in
+returns-2 c =
+    let x = narrow-fits _ _ (sym (c .before .before .before .before .before .before .minus .ensures) ∙ c .before .before .before .before .dx .given .1) in
     let y = narrow-leaves _ (sym (c .before .before .minus2 .ensures) ∙ c .enum-told2 .given .1) in
     sym (if-false _ _ _ (and-true _ _ x ∙ y))
 
@@ -54,7 +55,8 @@ in-tenths-requires c κs = search needs
 
 returns-3 : tie.Need-returns-3
 unfolding dist10Of squared
-returns-3 c = let u = c .before .before .before .before .before .before .before .before .dx .given .0 .0 in
+returns-3 c =
+    let u = c .before .before .before .before .before .before .before .before .dx .given .0 .0 in
     let v = c .before .before .before .before .dy .given .0 .0 in
     let nx = sym (c .before .before .before .before .before .before .before .before .before .before .minus .ensures) ∙ c .before .before .before .before .before .before .before .before .dx .given .1 in
     let ny = sym (c .before .before .before .before .before .before .minus2 .ensures) ∙ c .before .before .before .before .dy .given .1 in

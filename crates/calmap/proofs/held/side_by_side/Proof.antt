@@ -64,12 +64,14 @@ loop-less : tie.Need-loop-less Inv-loop μ-loop
 loop-less c = search needs
 
 loop-again : tie.Need-loop-again Inv-loop μ-loop
-loop-again c = let l = c .before .before .before in
+loop-again c =
+    let l = c .before .before .before in
     let s = l .before .before .args in
     (omega arith, length-set (l .loop .r) (l .loop .i) _ ∙ l .loop .inv .1, more (s .t1) (s .t2) (l .loop .r) (l .loop .i) (omega arith) (omega arith) (omega arith) (l .loop .inv .2))
 
 returns : tie.Need-returns Inv-loop μ-loop
-returns c = let l = c .before in
+returns c =
+    let l = c .before in
     let s = l .before .before .args in
     let e : l .loop .i ≡ longest = omega arith in
     all (s .t1) (s .t2) (l .loop .r) (l .loop .i) (omega arith) (omega arith) (omega (arith, l .loop .inv .1)) (l .loop .inv .2)

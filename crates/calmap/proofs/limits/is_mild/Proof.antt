@@ -23,7 +23,8 @@ returns c = sym (abs-over 9829 (c .before .before .args .q .0) (subst (λ (z : �
 
 returns-2 : tie.Need-returns-2
 unfolding mild
-returns-2 c = let e = read (c .before) in
+returns-2 c =
+    let e = read (c .before) in
     ap (λ (z : ℤ). leZ z (pos scaleLimit)) e ∙ abs-up-to 9829 (c .before .before .args .q .0) (subst (λ (z : ℤ). ltZ z (negsuc 9829) ≡ false) e (c .if1 .left))
 
 pub is-mild-spec : {M : Type 1} → statement M

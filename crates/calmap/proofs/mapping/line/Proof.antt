@@ -30,7 +30,8 @@ plus-requires-3 : tie.Need-plus-requires-3
 plus-requires-3 c κs = search needs
 
 returns : tie.Need-returns
-returns c = let s = c .before .before .before .before .before .before .before in
+returns c =
+    let s = c .before .before .before .before .before .before .before in
     let t = c .before .before .before .before .before .before .times .ensures ∙ ap (λ (z : ℤ). narrowOf (z *ℤ pos one)) (plain (s .fits .v)) in
     let u = c .before .before .before .before .before .scaled .ensures ∙ ap (λ (z : ℤ). narrowOf (s .args .p .0 *ℤ z)) (plain (s .fits .x)) in
     let v = c .before .before .before .scaled2 .ensures ∙ ap (λ (z : ℤ). narrowOf (s .args .q .0 *ℤ z)) (plain (s .fits .y)) in

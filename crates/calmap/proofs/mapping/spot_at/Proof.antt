@@ -29,7 +29,8 @@ returns-2 c = rw (c .before .before .before .fx .given .1, c .enum-told2 .given 
 
 returns-3 : tie.Need-returns-3
 unfolding spotOf
-returns-3 c = let u = c .before .before .before .before .fx .given .0 .0 in
+returns-3 c =
+    let u = c .before .before .before .before .fx .given .0 .0 in
     let v = c .before .fy .given .0 .0 in
     let fu : SFits w32 u = search needs in
     let fv : SFits w32 v = search needs in

@@ -68,7 +68,8 @@ dist10-requires c κs = search needs
 
 returns-2 : tie.Need-returns-2
 unfolding missOf
-returns-2 c = let s = c .before .before .before .before .before .before .before .before .before .before .before .before .before .before .before .args in
+returns-2 c =
+    let s = c .before .before .before .before .before .before .before .before .before .before .before .before .before .before .before .args in
     let at = sym (asked (c .before .before .before .before .before .before .before .before)) ∙ c .before .before .before .before .before .before .s .given .1 in
     let p = c .before .before .before .before .before .before .s .given .0 .0 in
     let fx = fits-x (c .before .before .before .before) in

@@ -46,7 +46,8 @@ shifted-requires-2 c κs = search needs
 
 returns-3 : tie.Need-returns-3
 unfolding placedOf
-returns-3 c = let k = c .before .before in
+returns-3 c =
+    let k = c .before .before in
     let p = c .before .before .before .before .before .before .before .before .args .p in
     let u = k .before .before .before .before .dx .given .0 .0 in
     let v = k .before .dy .given .0 .0 in

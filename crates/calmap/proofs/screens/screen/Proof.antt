@@ -24,7 +24,8 @@ placed-requires : tie.Need-placed-requires
 placed-requires c κs = search needs
 
 returns : tie.Need-returns
-returns c = let s = c .before .before .before .before .before in
+returns c =
+    let s = c .before .before .before .before .before in
     let k = s .args .c in
     let wx = c .before .before .before .before .of-u16 in
     let wy = c .before .before .before .of-u162 in

@@ -18,7 +18,8 @@ clamped-requires c κs = search needs
 
 returns : tie.Need-returns
 unfolding moved
-returns c = let s = c .before .before in
+returns c =
+    let s = c .before .before in
     let m = c .before .moved-by .result in
     let f : SFits w32 m = search needs in
     let e : m ≡ pos (s .args .v) +ℤ down sixteen (s .args .s) = c .before .moved-by .ensures ∙ ap (λ (z : ℤ). pos (s .args .v) +ℤ down sixteen z) (plain (s .fits .s)) in
