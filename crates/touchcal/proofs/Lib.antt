@@ -1,0 +1,4 @@
+-- What the crates above may cite. The other modules serve this crate's own proofs.
+pub mod RoundTrip
+mod Cuts
+mod Fractions
