@@ -2,3 +2,6 @@
 pub mod Binary32
 pub mod Sizes
 pub mod Floats
+pub mod Scpi
+pub mod Moments
+pub mod Solutions

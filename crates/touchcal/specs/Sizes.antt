@@ -1,5 +1,6 @@
 -- The numbers of document 01 that the float half turns on, each written here and nowhere else. A float m · 2 ^ e is
 -- written `fin s m e`, negative where s is true.
+use Prim.Native.Nat.{ℕ}
 use mathlib.Core.Bool.{true, false}
 use lib.IntN.{pos, negsuc}
 use lib.Ieee.{Float, fin, binary32, ofBits}
@@ -24,3 +25,15 @@ most32 = fin false 1_953_125 (pos 10)
 
 abbrev pub least32 : Float
 least32 = fin true 1_953_125 (pos 10)
+
+-- "1e-3 is bits 3A83126F"
+abbrev pub thin32 : Float
+thin32 = ofBits binary32 0x3A83126F
+
+-- an affine map takes three pairs
+abbrev pub fewest : ℕ
+fewest = 3
+
+-- "then Resid if max > 250"
+abbrev pub residLimit : ℕ
+residLimit = 250

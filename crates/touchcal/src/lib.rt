@@ -2,6 +2,9 @@
 // values of the command, and the least-squares fit of taps to targets. The half that is integers,
 // the map itself and its checks, is crate calmap.
 mod floats;
+mod moments;
+mod scpi;
+mod solving;
 
 pub use floats::CalAnswer;
 pub use floats::Coefs;
@@ -9,3 +12,8 @@ pub use floats::Q16Answer;
 pub use floats::from_f32;
 pub use floats::q16;
 pub use floats::to_f32;
+pub use scpi::Pending;
+pub use scpi::PutAnswer;
+pub use scpi::TakeAnswer;
+pub use scpi::scpi_put;
+pub use scpi::scpi_take;

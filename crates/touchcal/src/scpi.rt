@@ -1,0 +1,66 @@
+// The command that sets a calibration, DBG:TOUCH:CAL a,b,c,d,e,f: the parser puts what it read, and
+// the command takes it when it runs.
+ghost use mathlib.Core.Path.{_≡_};
+ghost use Rattle.touchcal.specs.Scpi.{clear, putOf, takeOf};
+use calmap::Cal;
+use calmap::Q16;
+use crate::floats;
+use crate::floats::CalAnswer;
+use crate::floats::Coefs;
+use panel::Refusal;
+
+// What was read and is not yet taken: a calibration if `set`.
+pub struct Pending {
+    pub set: bool,
+    pub cal: Cal,
+}
+
+// What scpi_put answers, with what is pending after it. It alone alters something that it refuses:
+// what was pending is cleared.
+pub enum PutAnswer {
+    Answered(Pending),
+    Refused(Refusal, Pending),
+}
+
+// What scpi_take answers, with what is pending after it.
+pub enum TakeAnswer {
+    Taken(Cal, Pending),
+    Nothing(Pending),
+}
+
+// Nothing pending.
+fn cleared() -> Pending
+    ensures { λ r. ⌜ r ≡ clear ⌝ }
+{
+    let none = Q16(0);
+    let cal = Cal {
+        c0: none,
+        c1: none,
+        c2: none,
+        c3: none,
+        c4: none,
+        c5: none,
+    };
+    Pending { set: false, cal }
+}
+
+// Keeps the coefficients that were read for the command, in steps.
+pub fn scpi_put(p: Pending, v: Coefs) -> PutAnswer
+    ensures { λ r. ⌜ r ≡ putOf p v ⌝ }
+{
+    match floats::from_f32(v) {
+        CalAnswer::Answered(c) => PutAnswer::Answered(Pending { set: true, cal: c }),
+        CalAnswer::Refused(r) => PutAnswer::Refused(r, cleared()),
+    }
+}
+
+// The calibration that was read, once.
+pub fn scpi_take(p: Pending) -> TakeAnswer
+    ensures { λ r. ⌜ r ≡ takeOf p ⌝ }
+{
+    if p.set {
+        let c = p.cal;
+        return TakeAnswer::Taken(c, cleared());
+    }
+    TakeAnswer::Nothing(cleared())
+}
