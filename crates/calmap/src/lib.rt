@@ -1,6 +1,22 @@
-// The integer half of the touch calibration.
+// The integer half of the touch calibration: the units that it counts in, the map of a point through a
+// calibration, the root and the distance in tenths of a pixel, and over lists of taps and of targets the
+// residuals of a calibration and the verdict on it. What it works out in floats stands in the crate above.
+mod checked;
+mod gaps;
+mod limits;
+mod mapping;
+mod residuals;
+mod screens;
 mod units;
 
+pub use gaps::Dist10Answer;
+pub use limits::CheckAnswer;
+pub use limits::Verdict;
+pub use mapping::ApplyAnswer;
+pub use mapping::Spot;
+pub use residuals::ResidAnswer;
+pub use residuals::Spread;
+pub use screens::ScreenAnswer;
 pub use units::Cal;
 pub use units::Pair;
 pub use units::Q16;

@@ -1,0 +1,11 @@
+-- What a reader must believe about the integer half of the calibration, in document 01's order. `Checked` and
+-- `Held` are the code's own and hold no rule.
+pub mod Sizes
+pub mod Wide
+pub mod Maps
+pub mod Screening
+pub mod Roots
+pub mod Distances
+pub mod Resids
+pub mod Checks
+pub mod Checked

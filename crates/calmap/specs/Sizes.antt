@@ -1,0 +1,43 @@
+-- The numbers of document 01 that the integer half of the calibration turns on, each written here and nowhere else.
+use Prim.Native.Nat.{ℕ}
+
+-- "leaves i32", "outside i16": how many there are below 0
+abbrev pub end32 : ℕ
+end32 = 2147483648
+
+abbrev pub end16 : ℕ
+end16 = 32768
+
+-- "x·65536"
+abbrev pub one : ℕ
+one = 65536
+
+-- "shift down by twelve places"
+abbrev pub twelve : ℕ
+twelve = 12
+
+-- "+ 32768, .. down sixteen"
+abbrev pub half : ℕ
+half = 32768
+
+abbrev pub sixteen : ℕ
+sixteen = 16
+
+-- "times 10, divided by 16": tenths and sixteenths in a pixel
+abbrev pub tenthsIn : ℕ
+tenthsIn = 10
+
+abbrev pub sixteenthsIn : ℕ
+sixteenthsIn = 16
+
+-- "over 64 pairs in use, or over 64 targets"
+abbrev pub longest : ℕ
+longest = 64
+
+-- "a, b, d, e deltas within ±9830"
+abbrev pub scaleLimit : ℕ
+scaleLimit = 9830
+
+-- "each target's shift at most 640 sixteenths each way"
+abbrev pub shiftLimit : ℕ
+shiftLimit = 640
