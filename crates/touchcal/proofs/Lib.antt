@@ -2,3 +2,4 @@
 pub mod RoundTrip
 mod Cuts
 mod Fractions
+mod Folds

@@ -1,7 +1,7 @@
 -- The means and the sums of `fit`.
 --
 -- "`fit`: the Rust's operations in its order, each rounded once; its four means and seven sums form one record of floats."
-use mathlib.Core.List.{List, [], _∷_}
+use mathlib.Core.List.{List, foldl}
 use Prim.Native.Nat.{ℕ}
 use lib.IntN.{pos}
 use lib.ListN.{length}
@@ -14,15 +14,10 @@ use Rattle.touchcal.specs.declared.moments.Means.{Means}
 use Rattle.touchcal.specs.declared.moments.Sums.{Sums}
 use Rattle.touchcal.specs.declared.moments.Moments.{Moments}
 
--- something gathered over a list, from its first element to its last
-unfoldable pub gather : {A B : Type 0} → (A → B → A) → A → List B → A
-gather more a [] = a
-gather more a (b ∷ bs) = gather more (more a b) bs
-
 unfoldable pub placeOf : Tap → Place
 placeOf t = record { x = float (t .x); y = float (t .y) }
 
--- the four totals: x and y of the raw tap, u and v of its target
+-- the four totals, from the first pair to the last: x and y of the raw tap, u and v of its target
 unfoldable pub addPair : Means → Pair → Means
 addPair t p =
     let raw = placeOf (p .raw) in
@@ -33,7 +28,7 @@ abbrev pub noTotals : Means
 noTotals = record { mx = zero32; my = zero32; mu = zero32; mv = zero32 }
 
 abbrev pub totalsOf : List Pair → Means
-totalsOf ps = gather addPair noTotals ps
+totalsOf ps = foldl addPair noTotals ps
 
 -- the means: the totals divided by how many pairs there are
 unfoldable pub sharedOf : Means → ℕ → Means
@@ -65,7 +60,7 @@ abbrev pub noSums : Sums
 noSums = record { sxx = zero32; sxy = zero32; syy = zero32; sxu = zero32; syu = zero32; sxv = zero32; syv = zero32 }
 
 abbrev pub sumsOf : Means → List Pair → Sums
-sumsOf m ps = gather (addAbout m) noSums ps
+sumsOf m ps = foldl (addAbout m) noSums ps
 
 unfoldable pub momentsOf : List Pair → Moments
 momentsOf ps = record { means = meansOf ps; sums = sumsOf (meansOf ps) ps }

@@ -42,7 +42,7 @@ pub struct Moments {
     pub sums: Sums,
 }
 
-fn place(t: Tap) -> Place
+fn place_of(t: Tap) -> Place
     ensures { λ r. ⌜ r ≡ placeOf t ⌝ }
 {
     Place {
@@ -55,8 +55,8 @@ fn place(t: Tap) -> Place
 fn add_pair(t: Means, p: Pair) -> Means
     ensures { λ r. ⌜ r ≡ addPair t p ⌝ }
 {
-    let raw = place(p.raw);
-    let tgt = place(p.tgt);
+    let raw = place_of(p.raw);
+    let tgt = place_of(p.tgt);
     Means {
         mx: t.mx + raw.x,
         my: t.my + raw.y,
@@ -103,8 +103,8 @@ fn shared(t: Means, n: usize) -> Means
 fn add_about(m: Means, s: Sums, p: Pair) -> Sums
     ensures { λ r. ⌜ r ≡ addAbout m s p ⌝ }
 {
-    let raw = place(p.raw);
-    let tgt = place(p.tgt);
+    let raw = place_of(p.raw);
+    let tgt = place_of(p.tgt);
     let x = raw.x - m.mx;
     let y = raw.y - m.my;
     let u = tgt.x - m.mu;
@@ -121,7 +121,7 @@ fn add_about(m: Means, s: Sums, p: Pair) -> Sums
 }
 
 // The products of the first n pairs about the means, added up.
-fn sums(pairs: [Pair; LONGEST], n: usize, m: Means) -> Sums
+fn sums_about(pairs: [Pair; LONGEST], n: usize, m: Means) -> Sums
     requires { ⌜ n ≤ longest ⌝ }
     ensures { λ r. ⌜ r ≡ sumsOf m (take n pairs) ⌝ }
 {
@@ -149,6 +149,6 @@ pub(crate) fn moments_of(pairs: [Pair; LONGEST], n: usize) -> Moments
     ensures { λ r. ⌜ r ≡ momentsOf (take n pairs) ⌝ }
 {
     let means = shared(totals(pairs, n), n);
-    let sums = sums(pairs, n, means);
+    let sums = sums_about(pairs, n, means);
     Moments { means, sums }
 }

@@ -2,11 +2,11 @@
 // the command takes it when it runs.
 ghost use mathlib.Core.Path.{_≡_};
 ghost use Rattle.touchcal.specs.Scpi.{clear, putOf, takeOf};
-use calmap::Cal;
-use calmap::Q16;
 use crate::floats;
 use crate::floats::CalAnswer;
 use crate::floats::Coefs;
+use calmap::Cal;
+use calmap::Q16;
 use panel::Refusal;
 
 // What was read and is not yet taken: a calibration if `set`.

@@ -4,8 +4,6 @@ ghost use Prim.Native.Nat.{_≤_};
 ghost use lib.ListN.{take};
 ghost use Rattle.calmap.specs.Sizes.{longest};
 ghost use Rattle.touchcal.specs.Solutions.{detOf, spreads, coefsOf, deltasOf, solvedOf};
-use calmap::Cal;
-use calmap::Pair;
 use crate::floats;
 use crate::floats::CalAnswer;
 use crate::floats::Coefs;
@@ -13,6 +11,8 @@ use crate::moments;
 use crate::moments::LONGEST;
 use crate::moments::Moments;
 use crate::moments::Sums;
+use calmap::Cal;
+use calmap::Pair;
 
 // The fewest pairs that have an affine map.
 const FEWEST: usize = 3;
@@ -40,7 +40,7 @@ fn det(s: Sums) -> f32
 }
 
 // Whether the raw taps are spread over a plane: no NaN passes.
-fn spread(s: Sums) -> bool
+fn is_spread(s: Sums) -> bool
     ensures { λ r. ⌜ r ≡ spreads s ⌝ }
 {
     let thin = 1e-3 * s.sxx * s.syy;
@@ -57,7 +57,7 @@ fn spread(s: Sums) -> bool
 }
 
 // The coefficients of the map.
-fn coefs(w: Moments) -> Coefs
+fn plane(w: Moments) -> Coefs
     ensures { λ r. ⌜ r ≡ coefsOf w ⌝ }
 {
     let m = w.means;
@@ -95,8 +95,8 @@ pub(crate) fn solve(pairs: [Pair; LONGEST], n: usize) -> Solved
         return Solved::Not(Fault::Few);
     }
     let w = moments::moments_of(pairs, n);
-    if spread(w.sums) {
-        match floats::in_steps(deltas(coefs(w))) {
+    if is_spread(w.sums) {
+        match floats::in_steps(deltas(plane(w))) {
             CalAnswer::Answered(c) => Solved::Is(c),
             CalAnswer::Refused(_) => Solved::Not(Fault::Steep),
         }
