@@ -1,10 +1,22 @@
--- The code's own steps, which hold no rule of document 01: numbers that are in i32 or none, added up in turn. proofs/Chains.antt
--- has that they end where specs/Maps.antt, Screening.antt and Distances.antt say.
-use lib.IntN.{ℤ, _+ℤ_}
+-- The code's own steps, which hold no rule of document 01: numbers that are in i32 or none, and what is made of them.
+-- proofs/Chains.antt has that they end where specs/Maps.antt, Screening.antt and Distances.antt say.
+use Prim.Native.Nat.{_-_}
+use lib.IntN.{ℤ, pos, _+ℤ_}
 use Rattle.panel.specs.Tests.{if_then_else_}
-use Rattle.calmap.specs.Wide.{in32}
+use Rattle.panel.specs.Sizes.{width, height}
+use Rattle.panel.specs.declared.points.Point.{Point}
+use Rattle.panel.specs.declared.refusals.Refusal.the-variants as Refusal
+use Rattle.calmap.specs.Sizes.{twelve}
+use Rattle.calmap.specs.Wide.{in32, down}
+use Rattle.calmap.specs.Maps.{line, lineFits, spot}
+use Rattle.calmap.specs.Screening.{nudge, nudgeFits, moved}
+use Rattle.calmap.specs.declared.units.Q16.{Q16}
 use Rattle.calmap.specs.declared.checked.Narrow.{Narrow}
 use Rattle.calmap.specs.declared.checked.Narrow.the-variants.{In, Wide}
+use Rattle.calmap.specs.declared.mapping.ApplyAnswer.{ApplyAnswer}
+use Rattle.calmap.specs.declared.mapping.ApplyAnswer.the-variants as Apply
+use Rattle.calmap.specs.declared.screens.ScreenAnswer.{ScreenAnswer}
+use Rattle.calmap.specs.declared.screens.ScreenAnswer.the-variants as Screen
 
 unfoldable pub narrowOf : ℤ → Narrow
 narrowOf z = if in32 z then In z else Wide
@@ -13,3 +25,21 @@ unfoldable pub plusOf : Narrow → Narrow → Narrow
 plusOf (In a) (In b) = narrowOf (a +ℤ b)
 plusOf (In a) Wide = Wide
 plusOf Wide b = Wide
+
+unfoldable pub lineOf : ℤ → Q16 → Q16 → Q16 → ℤ → ℤ → Narrow
+lineOf v p q k x y = if lineFits v p q k x y then In (line v p q k x y) else Wide
+
+unfoldable pub nudgeOf : Q16 → Q16 → Q16 → ℤ → ℤ → Narrow
+nudgeOf p q k x y = if nudgeFits p q k x y then In (nudge p q k x y) else Wide
+
+-- two sums in Q16 steps as a place
+unfoldable pub spotOf : Narrow → Narrow → ApplyAnswer
+spotOf (In u) (In v) = Apply.Answered (spot (down twelve u) (down twelve v))
+spotOf (In u) Wide = Apply.Refused Refusal.Wide
+spotOf Wide b = Apply.Refused Refusal.Wide
+
+-- a point moved by two sums in Q16 steps
+unfoldable pub placedOf : Point → Narrow → Narrow → ScreenAnswer
+placedOf p (In u) (In v) = Screen.Answered (record { x = moved (width - 1) (p .x) u; y = moved (height - 1) (p .y) v })
+placedOf p (In u) Wide = Screen.Refused Refusal.Wide
+placedOf p Wide b = Screen.Refused Refusal.Wide

@@ -14,34 +14,35 @@ use Rattle.panel.specs.declared.refusals.Refusal.the-variants.{Wide}
 use Rattle.calmap.specs.Sizes.{half, sixteen}
 use Rattle.calmap.specs.Wide.{in32, down}
 use Rattle.calmap.specs.declared.units.Cal.{Cal}
+use Rattle.calmap.specs.declared.units.Q16.{Q16}
 use Rattle.calmap.specs.declared.screens.ScreenAnswer.{ScreenAnswer}
 use Rattle.calmap.specs.declared.screens.ScreenAnswer.the-variants.{Answered, Refused}
 
 -- p·x + q·y + k + 32768
-unfoldable pub nudge : ℤ → ℤ → ℤ → ℤ → ℤ → ℤ
-nudge p x q y k = p *ℤ x +ℤ q *ℤ y +ℤ k +ℤ pos half
+unfoldable pub nudge : Q16 → Q16 → Q16 → ℤ → ℤ → ℤ
+nudge p q k x y = p .0 *ℤ x +ℤ q .0 *ℤ y +ℤ k .0 +ℤ pos half
 
 -- each of its products, and each partial sum from the left, is in i32
-unfoldable pub nudgeFits : ℤ → ℤ → ℤ → ℤ → ℤ → Bool
-nudgeFits p x q y k =
-    in32 (p *ℤ x) and in32 (q *ℤ y) and in32 (p *ℤ x +ℤ q *ℤ y)
-    and in32 (p *ℤ x +ℤ q *ℤ y +ℤ k) and in32 (nudge p x q y k)
+unfoldable pub nudgeFits : Q16 → Q16 → Q16 → ℤ → ℤ → Bool
+nudgeFits p q k x y =
+    in32 (p .0 *ℤ x) and in32 (q .0 *ℤ y) and in32 (p .0 *ℤ x +ℤ q .0 *ℤ y)
+    and in32 (p .0 *ℤ x +ℤ q .0 *ℤ y +ℤ k .0) and in32 (nudge p q k x y)
 
 -- held to 0..last
 abbrev pub clamp : ℕ → ℤ → ℕ
 clamp last (pos n) = min n last
 clamp last (negsuc n) = 0
 
--- a coordinate of a panel that is so many pixels wide, moved
+-- a coordinate moved by so many steps
 unfoldable pub moved : ℕ → ℕ → ℤ → ℕ
-moved size v s = clamp (size - 1) (pos v +ℤ down sixteen s)
+moved last v s = clamp last (pos v +ℤ down sixteen s)
 
 unfoldable pub screenOf : Cal → Point → ScreenAnswer
 screenOf c p =
     let x = pos (p .x) in
     let y = pos (p .y) in
-    if nudgeFits (c .c0 .0) x (c .c1 .0) y (c .c2 .0) and nudgeFits (c .c3 .0) x (c .c4 .0) y (c .c5 .0)
-    then Answered (record { x = moved width (p .x) (nudge (c .c0 .0) x (c .c1 .0) y (c .c2 .0)); y = moved height (p .y) (nudge (c .c3 .0) x (c .c4 .0) y (c .c5 .0)) })
+    if nudgeFits (c .c0) (c .c1) (c .c2) x y and nudgeFits (c .c3) (c .c4) (c .c5) x y
+    then Answered (record { x = moved (width - 1) (p .x) (nudge (c .c0) (c .c1) (c .c2) x y); y = moved (height - 1) (p .y) (nudge (c .c3) (c .c4) (c .c5) x y) })
     else Refused Wide
 
 abbrev pub toldScreen : ScreenAnswer → Told Point

@@ -1,0 +1,97 @@
+-- Sizes of sums, differences and products of integers, what a signed local's bits read back as, and the ends of i32
+-- and i16 as tests leave them. Assumes nothing.
+use mathlib.Core.Path.{_≡_, refl, sym, subst, ap, _∙_}
+use mathlib.Core.Bool.{Bool, true, false, cond, not}
+use Prim.Native.Nat.{ℕ, zero, suc, _+_, _-_, _*_, _≤_, _<_, zero-le}
+use native.Mathlib.Nat.{le-refl, le-trans, le-suc, mul-le-mul}
+use native.Mathlib.Omega.{arith}
+use borrow.Author.Tests.{lt-ltb, le-ltb}
+use lib.Dec.{T, ltb, ltb→lt, nltb→le}
+use lib.IntN.{ℤ, pos, negsuc, negℤ, _+ℤ_, _-ℤ_, _*ℤ_}
+use lib.Signed.{mag, ltZ}
+use mir.Syntax.{w32, w64}
+use mir.Val.{toZ, ofZ, SFits}
+use mir.ValLaws.{toZ-ofZ}
+use mir.Facts.{sfits-widen}
+use Rattle.calmap.specs.Sizes.{end32, end16}
+use Rattle.calmap.specs.Wide.{in32, in16}
+
+-- Sizes.
+
+either : (c : Bool) (x y n : ℕ) → x ≤ n → y ≤ n → mag (cond c (negsuc x) (pos y)) ≤ n
+either true x y n h k = h
+either false x y n h k = k
+
+mag-neg : (r : ℕ) → mag (negℤ (pos r)) ≤ r
+mag-neg zero = zero-le
+mag-neg (suc r) = le-suc r
+
+pub mag-add : (a b : ℤ) → mag (a +ℤ b) ≤ suc (mag a + mag b)
+mag-add (pos a) (pos b) = omega arith
+mag-add (pos a) (negsuc b) = either (ltb a (suc b)) (suc b - suc a) (a - suc b) (suc (a + b)) (omega arith) (omega arith)
+mag-add (negsuc a) (pos b) = either (ltb b (suc a)) (suc a - suc b) (b - suc a) (suc (a + b)) (omega arith) (omega arith)
+mag-add (negsuc a) (negsuc b) = omega arith
+
+mag-negℤ : (a : ℤ) → mag (negℤ a) ≤ suc (mag a)
+mag-negℤ (pos zero) = zero-le
+mag-negℤ (pos (suc a)) = omega arith
+mag-negℤ (negsuc a) = omega arith
+
+pub mag-sub : (a b : ℤ) → mag (a -ℤ b) ≤ suc (mag a + suc (mag b))
+mag-sub a b = omega (arith, mag-add a (negℤ b), mag-negℤ b)
+
+pub mag-mul : (a b : ℤ) → mag (a *ℤ b) ≤ suc (mag a) * suc (mag b)
+mag-mul (pos a) (pos b) = mul-le-mul (le-suc a) (le-suc b)
+mag-mul (pos a) (negsuc b) = le-trans (mag-neg (a * suc b)) (mul-le-mul (le-suc a) (le-refl (suc b)))
+mag-mul (negsuc a) (pos b) = le-trans (mag-neg (suc a * b)) (mul-le-mul (le-refl (suc a)) (le-suc b))
+mag-mul (negsuc a) (negsuc b) = le-refl (suc a * suc b)
+
+-- Of two numbers of 32 bits, the sum, the difference and the product fit 64.
+
+pub sum-fits : {a b : ℤ} → SFits w32 a → SFits w32 b → SFits w64 (a +ℤ b)
+sum-fits {a} {b} ha hb = record { sfits = omega (arith, mag-add a b, ha .sfits, hb .sfits) }
+
+pub difference-fits : {a b : ℤ} → SFits w32 a → SFits w32 b → SFits w64 (a -ℤ b)
+difference-fits {a} {b} ha hb = record { sfits = omega (arith, mag-sub a b, ha .sfits, hb .sfits) }
+
+pub product-fits : {a b : ℤ} → SFits w32 a → SFits w32 b → SFits w64 (a *ℤ b)
+product-fits {a} {b} ha hb = record { sfits = omega (arith, mag-mul a b, mul-le-mul (ha .sfits) (hb .sfits)) }
+
+-- What is read back.
+
+pub plain : {x : ℤ} → SFits w32 x → toZ w32 (ofZ w32 x) ≡ x
+plain {x} h = toZ-ofZ w32 x h
+
+-- a number of 32 bits at 64
+pub widened : {x : ℤ} → SFits w32 x → SFits w64 (toZ w32 (ofZ w32 x))
+widened h = subst (SFits w64) (sym (plain h)) (sfits-widen tt h)
+
+pub read-twice : {x : ℤ} → SFits w32 x → toZ w64 (ofZ w64 (toZ w32 (ofZ w32 x))) ≡ x
+read-twice {x} h = toZ-ofZ w64 (toZ w32 (ofZ w32 x)) (widened h) ∙ plain h
+
+-- The ends of i32 and i16. `low` is the least number less 1, so that the test of it is `ltZ v (negsuc low)`.
+
+module _ (low : ℕ) where
+  pub below-low : (v : ℤ) → ltZ v (negsuc low) ≡ true → suc low ≤ mag v
+  below-low (pos n) h = absurd (subst T (sym h) tt)
+  below-low (negsuc n) h = ltb→lt low n (subst T (sym h) tt)
+
+  pub above-high : (v : ℤ) → ltZ (pos low) v ≡ true → suc low ≤ mag v
+  above-high (pos n) h = ltb→lt low n (subst T (sym h) tt)
+  above-high (negsuc n) h = absurd (subst T (sym h) tt)
+
+  pub between : (v : ℤ) → ltZ v (negsuc low) ≡ false → ltZ (pos low) v ≡ false → mag v < suc low
+  between (pos n) h k = omega (arith, nltb→le low n (subst (λ (b : Bool). T (not b)) (sym k) tt))
+  between (negsuc n) h k = omega (arith, nltb→le low n (subst (λ (b : Bool). T (not b)) (sym h) tt))
+
+  pub from-low : (v : ℤ) → ltZ v (negsuc low) ≡ false → ltZ v (pos (suc low)) ≡ ltb (mag v) (suc low)
+  from-low (pos n) h = refl
+  from-low (negsuc n) h = sym (lt-ltb n (suc low) (omega (arith, nltb→le low n (subst (λ (b : Bool). T (not b)) (sym h) tt))))
+
+pub in32-yes : (z : ℤ) → mag z < end32 → in32 z ≡ true
+unfolding in32
+in32-yes z h = lt-ltb _ _ h
+
+pub in32-no : (z : ℤ) → end32 ≤ mag z → in32 z ≡ false
+unfolding in32
+in32-no z h = le-ltb _ _ h

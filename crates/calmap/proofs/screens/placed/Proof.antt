@@ -1,0 +1,73 @@
+use borrow.Author.Needs.{needs}
+use mathlib.Core.Path.{_≡_, ap, _∙_}
+use Prim.Native.Nat.{_-_}
+use lib.IntN.{ℤ}
+use mir.Syntax.{w32}
+use mir.Val.{SFits}
+use Rattle.panel.specs.Sizes.{width, height}
+use Rattle.calmap.specs.Screening.{moved}
+use Rattle.calmap.specs.Checked.{placedOf}
+use Rattle.calmap.specs.declared.screens.ScreenAnswer.the-variants.{Answered}
+use Rattle.calmap.proofs.Signed.{plain}
+use Rattle.calmap.proofs.screens.placed.Statement.{statement}
+use Rattle.calmap.proofs.screens.placed.Tie as tie
+
+enum-known-dx : tie.Need-enum-known-dx
+enum-known-dx c = search needs
+
+enum-told : tie.Need-enum-told
+enum-told c = search needs
+
+returns : tie.Need-returns
+unfolding placedOf
+returns c = rw (c .enum-told .given .1)
+
+enum-known-dy : tie.Need-enum-known-dy
+enum-known-dy c = search needs
+
+enum-told-2 : tie.Need-enum-told-2
+enum-told-2 c = search needs
+
+returns-2 : tie.Need-returns-2
+unfolding placedOf
+returns-2 c = rw (c .before .before .before .dx .given .1, c .enum-told2 .given .1)
+
+sub-shifted : tie.Need-sub-shifted
+sub-shifted c = search needs
+
+shifted-requires : tie.Need-shifted-requires
+shifted-requires c κs = search needs
+
+sub-shifted-2 : tie.Need-sub-shifted-2
+sub-shifted-2 c = search needs
+
+shifted-requires-2 : tie.Need-shifted-requires-2
+shifted-requires-2 c κs = search needs
+
+returns-3 : tie.Need-returns-3
+unfolding placedOf
+returns-3 c = let k = c .before .before in
+    let p = c .before .before .before .before .before .before .before .before .args .p in
+    let u = k .before .before .before .before .dx .given .0 .0 in
+    let v = k .before .dy .given .0 .0 in
+    let fu : SFits w32 u = search needs in
+    let fv : SFits w32 v = search needs in
+    let ex = c .before .shifted .ensures ∙ ap (λ (z : ℤ). moved (width - 1) (p .x) z) (plain fu) in
+    let ey = c .shifted2 .ensures ∙ ap (λ (z : ℤ). moved (height - 1) (p .y) z) (plain fv) in
+    rw (k .before .before .before .before .dx .given .1, k .before .dy .given .1) (λ i. Answered (record { x = ex i; y = ey i }))
+
+pub placed-spec : {M : Type 1} → statement M
+placed-spec =
+    tie.close
+    (tie.spec
+    enum-known-dx
+    enum-told
+    returns
+    enum-known-dy
+    enum-told-2
+    returns-2
+    sub-shifted
+    shifted-requires
+    sub-shifted-2
+    shifted-requires-2
+    returns-3)

@@ -1,0 +1,48 @@
+use borrow.Author.Needs.{needs}
+use mathlib.Core.Path.{_≡_, _∙_}
+use mir.Syntax.{w32}
+use mir.Val.{SFits}
+use Rattle.calmap.specs.Checked.{nudgeOf, placedOf}
+use Rattle.calmap.proofs.Signed.{plain}
+use Rattle.calmap.proofs.Chains.{screen-chain}
+use Rattle.calmap.proofs.screens.screen.Statement.{statement}
+use Rattle.calmap.proofs.screens.screen.Tie as tie
+
+widen-requires : tie.Need-widen-requires
+widen-requires c κs = search needs
+
+widen-requires-2 : tie.Need-widen-requires-2
+widen-requires-2 c κs = search needs
+
+nudge-requires : tie.Need-nudge-requires
+nudge-requires c κs = search needs
+
+nudge-requires-2 : tie.Need-nudge-requires-2
+nudge-requires-2 c κs = search needs
+
+placed-requires : tie.Need-placed-requires
+placed-requires c κs = search needs
+
+returns : tie.Need-returns
+returns c = let s = c .before .before .before .before .before in
+    let k = s .args .c in
+    let wx = c .before .before .before .before .widen in
+    let wy = c .before .before .before .widen2 in
+    let fx : SFits w32 (wx .result) = search needs in
+    let fy : SFits w32 (wy .result) = search needs in
+    let ex = plain fx ∙ wx .ensures in
+    let ey = plain fy ∙ wy .ensures in
+    let u = c .before .before .nudge .ensures ∙ (λ i. nudgeOf (k .c0) (k .c1) (k .c2) (ex i) (ey i)) in
+    let v = c .before .nudge2 .ensures ∙ (λ i. nudgeOf (k .c3) (k .c4) (k .c5) (ex i) (ey i)) in
+    c .placed .ensures ∙ (λ i. placedOf (s .args .p) (u i) (v i)) ∙ screen-chain k (s .args .p)
+
+pub screen-spec : {M : Type 1} → statement M
+screen-spec =
+    tie.close
+    (tie.spec
+    widen-requires
+    widen-requires-2
+    nudge-requires
+    nudge-requires-2
+    placed-requires
+    returns)
