@@ -3,3 +3,6 @@ pub mod RoundTrip
 mod Cuts
 mod Fractions
 mod Folds
+mod Reach
+pub mod Fitted
+pub mod Promises

@@ -22,7 +22,7 @@ use Rattle.calmap.specs.declared.units.Q16.{Q16}
 use Rattle.calmap.specs.declared.units.Cal.{Cal}
 use Rattle.touchcal.specs.Binary32.{_⊕_, _⊖_, _⊗_, _⊘_, _⊲_, float, cut}
 use Rattle.touchcal.specs.Sizes.{zero32, half32, one32, scale32, most32, least32}
-use Rattle.touchcal.specs.Floats.{halfAway, q16Of, outOf, toF32Of, offIdentity, inSteps, stepsOf, fromF32Of}
+use Rattle.touchcal.specs.Floats.{inReach, halfAway, nearestStep, q16Of, outOf, toF32Of, offIdentity, inSteps, stepsOf, fromF32Of}
 use Rattle.touchcal.specs.declared.floats.Q16Answer.the-variants as Q16Answer
 use Rattle.touchcal.specs.declared.floats.CalAnswer.the-variants as CalAnswer
 use Rattle.touchcal.proofs.Fractions.{sum-is, add-at, exact, over, scaled, both, less, more}
@@ -150,7 +150,7 @@ under-high (fin true m e) s n h v = lt-ltb 0 (m * up e * 1 + 2000000000 * down e
 under-high (fin false m e) s n h v = lt-ltb (m * up e * 1) (2000000000 * down e) (omega (arith, v .1, mul-le-mul-right (down e) h, down-pos e))
 
 answered : (v : Float) → least32 ⊲ v ⊗ scale32 ≡ true → v ⊗ scale32 ⊲ most32 ≡ true → q16Of v ≡ Q16Answer.Answered (record { 0 = cut (halfAway (v ⊗ scale32)) })
-unfolding q16Of
+unfolding q16Of inReach nearestStep
 answered v h k = search follow
 
 module _ (x : Float) (n : ℕ) (small : n ≤ 2 ^ 23) where
@@ -225,9 +225,9 @@ alone z =
     ∷ []
 
 pub no-further-up : map (λ c. fromF32Of (toF32Of c)) (alone (pos 8_388_609)) ≡ map (λ c. CalAnswer.Answered c) (alone (pos 8_388_610))
-unfolding fromF32Of stepsOf inSteps offIdentity toF32Of outOf q16Of halfAway if_then_else_ _and_ add sub mul div lt ofInt toSigned
+unfolding fromF32Of stepsOf inSteps offIdentity toF32Of outOf q16Of inReach nearestStep halfAway if_then_else_ _and_ add sub mul div lt ofInt toSigned
 no-further-up = refl
 
 pub no-further-down : map (λ c. fromF32Of (toF32Of c)) (alone (negℤ (pos 8_388_609))) ≡ map (λ c. CalAnswer.Answered c) (alone (negℤ (pos 8_388_610)))
-unfolding fromF32Of stepsOf inSteps offIdentity toF32Of outOf q16Of halfAway if_then_else_ _and_ add sub mul div lt ofInt toSigned
+unfolding fromF32Of stepsOf inSteps offIdentity toF32Of outOf q16Of inReach nearestStep halfAway if_then_else_ _and_ add sub mul div lt ofInt toSigned
 no-further-down = refl

@@ -3,6 +3,7 @@
 -- "`q16`: s = v·65536 strictly between ±2.0e9; s + 0.5 or (s < 0) s - 0.5 in f32, cut toward zero. `to_f32`: c in f32
 -- (nearest, ties to even), / 65536, + 1 for a and e, + 0 else; `from_f32` takes that off, then `q16`." "7 HUGE: Rust
 -- `from_f32`, or `q16` by itself, answers `None`".
+use mathlib.Core.Bool.{Bool}
 use lib.IntN.{ℤ, pos}
 use lib.Ieee.{Float}
 use Rattle.panel.specs.Tests.{if_then_else_, _and_}
@@ -18,13 +19,19 @@ use Rattle.touchcal.specs.declared.floats.Q16Answer.the-variants as Q16A
 use Rattle.touchcal.specs.declared.floats.CalAnswer.{CalAnswer}
 use Rattle.touchcal.specs.declared.floats.CalAnswer.the-variants as CalAnswer
 
+-- "s = v·65536 strictly between ±2.0e9": no NaN is
+unfoldable pub inReach : Float → Bool
+inReach v = (least32 ⊲ v ⊗ scale32) and (v ⊗ scale32 ⊲ most32)
+
+-- "s + 0.5 or (s < 0) s - 0.5 in f32"
 unfoldable pub halfAway : Float → Float
 halfAway s = if s ⊲ zero32 then s ⊖ half32 else s ⊕ half32
 
+unfoldable pub nearestStep : Float → Q16
+nearestStep v = record { 0 = cut (halfAway (v ⊗ scale32)) }
+
 unfoldable pub q16Of : Float → Q16Answer
-q16Of v =
-    let s = v ⊗ scale32 in
-    if least32 ⊲ s and s ⊲ most32 then Q16Answer.Answered (record { 0 = cut (halfAway s) }) else Q16Answer.Refused Huge
+q16Of v = if inReach v then Q16Answer.Answered (nearestStep v) else Q16Answer.Refused Huge
 
 abbrev pub toldQ16 : Q16Answer → Told Q16
 toldQ16 (Q16Answer.Answered q) = answered q

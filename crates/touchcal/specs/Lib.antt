@@ -5,3 +5,4 @@ pub mod Floats
 pub mod Scpi
 pub mod Moments
 pub mod Solutions
+pub mod Fits

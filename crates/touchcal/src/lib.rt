@@ -1,11 +1,14 @@
 // The touch calibration, the half that is floats: coefficients as f32 and as Q16 steps, the pending
 // values of the command, and the least-squares fit of taps to targets. The half that is integers,
 // the map itself and its checks, is crate calmap.
+mod fitting;
 mod floats;
 mod moments;
 mod scpi;
 mod solving;
 
+pub use fitting::Fit;
+pub use fitting::FitAnswer;
 pub use floats::CalAnswer;
 pub use floats::Coefs;
 pub use floats::Q16Answer;

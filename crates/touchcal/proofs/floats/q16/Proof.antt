@@ -12,7 +12,7 @@ use borrow.Author.Needs.{needs}
 use Rattle.panel.proofs.Follow.{follow}
 use Rattle.touchcal.specs.Binary32.{_⊗_, cut}
 use Rattle.touchcal.specs.Sizes.{scale32}
-use Rattle.touchcal.specs.Floats.{q16Of}
+use Rattle.touchcal.specs.Floats.{q16Of, inReach, nearestStep}
 use Rattle.touchcal.proofs.Cuts.{Small, small-half, cut-low, cut-high, cut-same}
 use Rattle.touchcal.proofs.floats.q16.Statement.{statement}
 use Rattle.touchcal.proofs.floats.q16.Tie as tie
@@ -43,17 +43,17 @@ cast-t8 : tie.Need-cast-t8
 cast-t8 c = subst (SFits w32) (sym (wide c)) (fits c)
 
 returns : tie.Need-returns
-unfolding ofBits neg q16Of
+unfolding ofBits neg q16Of inReach nearestStep
 returns c =
     let z : toZ w32 (ofZ w32 (toZ w64 (ofZ w64 (c .truncating-f32-to-i64 .result)))) ≡ cut (c .before .half-away .result) = rw (wide c, toZ-ofZ w32 (c .truncating-f32-to-i64 .result) (fits c)) (cut-is c) in
     search (follow, z, ← c .before .half-away .ensures)
 
 returns-2 : tie.Need-returns-2
-unfolding ofBits neg q16Of
+unfolding ofBits neg q16Of inReach nearestStep
 returns-2 c = search follow
 
 returns-3 : tie.Need-returns-3
-unfolding ofBits neg q16Of
+unfolding ofBits neg q16Of inReach nearestStep
 returns-3 c = search follow
 
 pub q16-spec : {M : Type 1} → statement M
