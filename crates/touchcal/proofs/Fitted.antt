@@ -31,7 +31,7 @@ use Rattle.touchcal.specs.Sizes.{fewest}
 use Rattle.touchcal.specs.Floats.{identity}
 use Rattle.touchcal.specs.Moments.{momentsOf}
 use Rattle.touchcal.specs.Solutions.{spreads, coefsOf, deltasOf, ofSteps, solvedOf}
-use Rattle.touchcal.specs.Fits.{judgedBy, weighed, fitted, fitOf, Tells, toldFit}
+use Rattle.touchcal.specs.Fits.{judgedBy, fitWith, weighed, fitted, fitOf, Tells, toldFit}
 use Rattle.touchcal.specs.declared.floats.Coefs.{Coefs}
 use Rattle.touchcal.specs.declared.solving.Fault.the-variants.{Few, Line, Steep}
 use Rattle.touchcal.specs.declared.solving.Solved.{Solved}
@@ -131,7 +131,7 @@ never r f e = let z : _≡_ {A = ℕ} 0 1 = cc in absurd (omega arith)
 weighed-back : (ps : List Pair) (ts : List Point) (c : Cal) (r r0 : ResidAnswer) (k : CheckAnswer) (f : Fit)
     → residOf c ps ≡ r → residOf identity ps ≡ r0 → checkOf c ts ≡ k → weighed c r r0 k ≡ Answered f → (c ≡ f .cal) × Measured ps ts f
 weighed-back ps ts c (Resid.Answered s) (Resid.Answered s0) (Check.Answered v) f p p0 q e =
-    let is : record { cal = c; mean = s .mean; max = s .max; before = s0 .mean; verdict = judgedBy v (s .max) } ≡ f = cc in
+    let is : fitWith c s s0 v ≡ f = cc in
     subst (λ (g : Fit). (c ≡ g .cal) × Measured ps ts g) is (refl, record { most = s0 .max; checked = v; after = p; before = p0; check = q; verdict = refl })
 weighed-back ps ts c (Resid.Answered s) (Resid.Answered s0) (Check.Refused r) f p p0 q e = never r f e
 weighed-back ps ts c (Resid.Answered s) (Resid.Refused r) k f p p0 q e = never r f e

@@ -5,7 +5,7 @@
 -- Shift, then Resid if max > 250." Mean, max and before are those of `resid`, Scale and Shift those of `check`.
 use Prim.Native.Nat.{ℕ}
 use mathlib.Core.List.{List}
-use lib.ListN.{length}
+use lib.ListN.{length, take}
 use Rattle.panel.specs.Tests.{if_then_else_, _or_, _<?_}
 use Rattle.panel.specs.Points.{allOnPanel}
 use Rattle.panel.specs.Refusals.{Told, answered, refused}
@@ -18,6 +18,7 @@ use Rattle.calmap.specs.Checks.{checkOf, Judged, none, judged}
 use Rattle.calmap.specs.declared.units.Cal.{Cal}
 use Rattle.calmap.specs.declared.units.Pair.{Pair}
 use Rattle.calmap.specs.declared.units.Tenths.{Tenths}
+use Rattle.calmap.specs.declared.residuals.Spread.{Spread}
 use Rattle.calmap.specs.declared.residuals.ResidAnswer.{ResidAnswer}
 use Rattle.calmap.specs.declared.residuals.ResidAnswer.the-variants as Resid
 use Rattle.calmap.specs.declared.limits.Verdict.{Verdict}
@@ -40,10 +41,13 @@ judgedBy Verdict.Scale max = Verdict.Scale
 judgedBy Verdict.Shift max = Verdict.Shift
 judgedBy Verdict.Resid max = Verdict.Resid
 
--- a calibration by its residuals, those without a calibration, and its check
+-- a calibration with its residuals, those without it, and the verdict of `check`
+abbrev pub fitWith : Cal → Spread → Spread → Verdict → Fit
+fitWith c after before v =
+    record { cal = c; mean = after .mean; max = after .max; before = before .mean; verdict = judgedBy v (after .max) }
+
 abbrev pub weighed : Cal → ResidAnswer → ResidAnswer → CheckAnswer → FitAnswer
-weighed c (Resid.Answered s) (Resid.Answered s0) (Check.Answered v) =
-    Answered (record { cal = c; mean = s .mean; max = s .max; before = s0 .mean; verdict = judgedBy v (s .max) })
+weighed c (Resid.Answered s) (Resid.Answered s0) (Check.Answered v) = Answered (fitWith c s s0 v)
 weighed c (Resid.Answered s) (Resid.Answered s0) (Check.Refused r) = Refused r
 weighed c (Resid.Answered s) (Resid.Refused r) k = Refused r
 weighed c (Resid.Refused r) before k = Refused r
@@ -57,6 +61,12 @@ fitOf ps ts =
     if longest <? length ps or longest <? length ts then Refused Long
     else if allOnPanel ts then fitted (solvedOf ps) ps ts
     else Refused Target
+
+-- the first n pairs and the first m targets, of arrays that hold 64
+unfoldable pub fitFirst : ℕ → List Pair → ℕ → List Point → FitAnswer
+fitFirst n ps m ts =
+    if longest <? n or longest <? m then Refused Long
+    else fitOf (take n ps) (take m ts)
 
 -- what a fit tells; zeros and no verdict for a refusal
 pub record Tells : Type 0 where

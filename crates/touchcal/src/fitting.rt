@@ -1,10 +1,17 @@
 // The fit of a calibration to taps: the solution of the least squares, how far the taps are from it
 // and how far they were without it, and the verdict.
 ghost use mathlib.Core.Path.{_≡_};
+ghost use Rattle.touchcal.specs.Fits.{judgedBy, fitWith, weighed};
 use calmap::Cal;
+use calmap::CheckAnswer;
+use calmap::ResidAnswer;
+use calmap::Spread;
 use calmap::Tenths;
 use calmap::Verdict;
 use panel::Refusal;
+
+// The largest residual of an accepted fit, in tenths of a pixel.
+const MAX_RESID: u32 = 250;
 
 // A fit and its residuals: mean and max of the taps through the fitted map, before the mean without
 // a calibration.
@@ -19,4 +26,53 @@ pub struct Fit {
 pub enum FitAnswer {
     Answered(Fit),
     Refused(Refusal),
+}
+
+// The verdict of check, and then that of the largest residual.
+fn judged_by(v: Verdict, max: Tenths) -> Verdict
+    ensures { λ r. ⌜ r ≡ judgedBy v max ⌝ }
+{
+    match v {
+        Verdict::Pass => {
+            if max.0 > MAX_RESID {
+                return Verdict::Resid;
+            }
+            Verdict::Pass
+        }
+        Verdict::Scale => Verdict::Scale,
+        Verdict::Shift => Verdict::Shift,
+        Verdict::Resid => Verdict::Resid,
+    }
+}
+
+// A calibration with its residuals, those without it, and the verdict of check.
+fn fit_with(c: Cal, after: Spread, before: Spread, v: Verdict) -> Fit
+    ensures { λ r. ⌜ r ≡ fitWith c after before v ⌝ }
+{
+    let mean = after.mean;
+    let max = after.max;
+    let before = before.mean;
+    Fit {
+        cal: c,
+        mean,
+        max,
+        before,
+        verdict: judged_by(v, max),
+    }
+}
+
+// The same, where none of them is refused.
+fn weigh(c: Cal, after: ResidAnswer, before: ResidAnswer, check: CheckAnswer) -> FitAnswer
+    ensures { λ r. ⌜ r ≡ weighed c after before check ⌝ }
+{
+    match after {
+        ResidAnswer::Answered(s) => match before {
+            ResidAnswer::Answered(s0) => match check {
+                CheckAnswer::Answered(v) => FitAnswer::Answered(fit_with(c, s, s0, v)),
+                CheckAnswer::Refused(r) => FitAnswer::Refused(r),
+            },
+            ResidAnswer::Refused(r) => FitAnswer::Refused(r),
+        },
+        ResidAnswer::Refused(r) => FitAnswer::Refused(r),
+    }
 }

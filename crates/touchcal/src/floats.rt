@@ -1,7 +1,7 @@
 // Coefficients as floats and as Q16 steps: what a technician reads and writes, and what is kept.
 // Each operation is the Rust's, in its order, and rounds once.
 ghost use mathlib.Core.Path.{_≡_};
-ghost use Rattle.touchcal.specs.Floats.{halfAway, q16Of, outOf, offIdentity, stepsOf, toF32Of, fromF32Of};
+ghost use Rattle.touchcal.specs.Floats.{halfAway, q16Of, outOf, offIdentity, stepsOf, toF32Of, fromF32Of, identity};
 use calmap::Cal;
 use calmap::Q16;
 use panel::Refusal;
@@ -128,4 +128,19 @@ pub fn from_f32(v: Coefs) -> CalAnswer
     ensures { λ r. ⌜ r ≡ fromF32Of v ⌝ }
 {
     in_steps(off_identity(v))
+}
+
+// No calibration: the identity.
+pub(crate) fn no_cal() -> Cal
+    ensures { λ r. ⌜ r ≡ identity ⌝ }
+{
+    let none = Q16(0);
+    Cal {
+        c0: none,
+        c1: none,
+        c2: none,
+        c3: none,
+        c4: none,
+        c5: none,
+    }
 }

@@ -6,7 +6,6 @@ use crate::floats;
 use crate::floats::CalAnswer;
 use crate::floats::Coefs;
 use calmap::Cal;
-use calmap::Q16;
 use panel::Refusal;
 
 // What was read and is not yet taken: a calibration if `set`.
@@ -32,15 +31,7 @@ pub enum TakeAnswer {
 fn cleared() -> Pending
     ensures { λ r. ⌜ r ≡ clear ⌝ }
 {
-    let none = Q16(0);
-    let cal = Cal {
-        c0: none,
-        c1: none,
-        c2: none,
-        c3: none,
-        c4: none,
-        c5: none,
-    };
+    let cal = floats::no_cal();
     Pending { set: false, cal }
 }
 
