@@ -39,9 +39,10 @@ fn cleared() -> Pending
 pub fn scpi_put(p: Pending, v: Coefs) -> PutAnswer
     ensures { λ r. ⌜ r ≡ putOf p v ⌝ }
 {
+    let none = cleared();
     match floats::from_f32(v) {
         CalAnswer::Answered(c) => PutAnswer::Answered(Pending { set: true, cal: c }),
-        CalAnswer::Refused(r) => PutAnswer::Refused(r, cleared()),
+        CalAnswer::Refused(r) => PutAnswer::Refused(r, none),
     }
 }
 
@@ -49,9 +50,10 @@ pub fn scpi_put(p: Pending, v: Coefs) -> PutAnswer
 pub fn scpi_take(p: Pending) -> TakeAnswer
     ensures { λ r. ⌜ r ≡ takeOf p ⌝ }
 {
+    let none = cleared();
     if p.set {
         let c = p.cal;
-        return TakeAnswer::Taken(c, cleared());
+        return TakeAnswer::Taken(c, none);
     }
-    TakeAnswer::Nothing(cleared())
+    TakeAnswer::Nothing(none)
 }

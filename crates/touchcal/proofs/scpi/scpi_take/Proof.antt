@@ -9,14 +9,11 @@ cleared-requires c κs = search needs
 
 returns : tie.Need-returns
 unfolding takeOf
-returns c = search (follow, ← c .cleared .ensures)
-
-cleared-requires-2 : tie.Need-cleared-requires-2
-cleared-requires-2 c κs = search needs
+returns c = search (follow, ← c .before .before .cleared .ensures)
 
 returns-2 : tie.Need-returns-2
 unfolding takeOf
-returns-2 c = search (follow, ← c .cleared2 .ensures)
+returns-2 c = search (follow, ← c .before .cleared .ensures)
 
 pub scpi-take-spec : {M : Type 1} → statement M
-scpi-take-spec = tie.close (tie.spec cleared-requires returns cleared-requires-2 returns-2)
+scpi-take-spec = tie.close (tie.spec cleared-requires returns returns-2)
