@@ -6,3 +6,4 @@ mod Folds
 mod Reach
 pub mod Fitted
 pub mod Promises
+pub mod Cases
