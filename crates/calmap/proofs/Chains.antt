@@ -2,7 +2,8 @@
 -- Assumes nothing.
 use mathlib.Core.Path.{_≡_, refl, sym, ap, _∙_}
 use mathlib.Core.Bool.{Bool, true, false}
-use Prim.Native.Nat.{_-_, _≤_, _<_}
+use native.Mathlib.Omega.{arith}
+use Prim.Native.Nat.{ℕ, _-_, _≤_, _<_}
 use borrow.Author.Tests.{lt-ltb, le-ltb}
 use lib.Signed.{mag}
 use lib.IntN.{ℤ, pos, _+ℤ_, _*ℤ_}
@@ -38,6 +39,34 @@ narrow-out z h = sym (if-false _ _ _ (le-ltb _ _ h))
 narrow-held : (z : ℤ) → narrowOf z ≡ held (in32 z) z
 unfolding narrowOf
 narrow-held z = refl
+
+-- and back: where there is a number, it is z itself
+
+held-fits : (b : Bool) (z t : ℤ) → held b z ≡ In t → b ≡ true
+unfolding if_then_else_
+held-fits true z t e = refl
+held-fits false z t e = cc
+
+held-is : (b : Bool) (z t : ℤ) → held b z ≡ In t → z ≡ t
+unfolding if_then_else_
+held-is true z t e = cc
+held-is false z t e = let n : _≡_ {A = ℕ} 0 1 = cc in absurd (omega arith)
+
+held-leaves : (b : Bool) (z : ℤ) → held b z ≡ Wide → b ≡ false
+unfolding if_then_else_
+held-leaves true z e = cc
+held-leaves false z e = refl
+
+pub narrow-fits : (z t : ℤ) → narrowOf z ≡ In t → in32 z ≡ true
+narrow-fits z t e = held-fits (in32 z) z t (sym (narrow-held z) ∙ e)
+
+pub narrow-is : (z t : ℤ) → narrowOf z ≡ In t → z ≡ t
+narrow-is z t e = held-is (in32 z) z t (sym (narrow-held z) ∙ e)
+
+pub narrow-leaves : (z : ℤ) → narrowOf z ≡ Wide → in32 z ≡ false
+narrow-leaves z e = held-leaves (in32 z) z (sym (narrow-held z) ∙ e)
+
+-- Sums.
 
 plus-held : (a b : Bool) (y z : ℤ) → plusOf (held a y) (held b z) ≡ held (_and_ a (_and_ b (in32 (y +ℤ z)))) (y +ℤ z)
 unfolding plusOf narrowOf if_then_else_ _and_

@@ -2,3 +2,10 @@
 mod Signed
 mod Chains
 mod Floors
+mod Rooted
+mod Newton
+mod Walking
+mod Tallying
+mod Bounds
+mod Judging
+mod Firsts

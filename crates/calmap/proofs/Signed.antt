@@ -5,11 +5,11 @@ use mathlib.Core.Bool.{Bool, true, false, cond, not}
 use Prim.Native.Nat.{ℕ, zero, suc, _+_, _-_, _*_, _≤_, _<_, zero-le}
 use native.Mathlib.Nat.{le-refl, le-trans, le-suc, mul-le-mul}
 use native.Mathlib.Omega.{arith}
-use borrow.Author.Tests.{lt-ltb, le-ltb}
-use lib.Dec.{T, ltb, ltb→lt, nltb→le}
-use lib.IntN.{ℤ, pos, negsuc, negℤ, _+ℤ_, _-ℤ_, _*ℤ_}
-use lib.Signed.{mag, ltZ}
-use mir.Syntax.{w32, w64}
+use borrow.Author.Tests.{lt-ltb, le-ltb, le-leb, lt-leb, ltb-false}
+use lib.Dec.{T, leb, ltb, ltb→lt, nltb→le}
+use lib.IntN.{ℤ, pos, negsuc, negℤ, natAbs, _+ℤ_, _-ℤ_, _*ℤ_}
+use lib.Signed.{mag, ltZ, leZ, nonNeg, natAbs-le}
+use mir.Syntax.{w16, w32, w64}
 use mir.Val.{toZ, ofZ, SFits}
 use mir.ValLaws.{toZ-ofZ}
 use mir.Facts.{sfits-widen}
@@ -95,3 +95,41 @@ in32-yes z h = lt-ltb _ _ h
 pub in32-no : (z : ℤ) → end32 ≤ mag z → in32 z ≡ false
 unfolding in32
 in32-no z h = le-ltb _ _ h
+
+-- A square.
+
+pub square-nonNeg : (d : ℤ) → T (nonNeg (d *ℤ d))
+square-nonNeg (pos n) = tt
+square-nonNeg (negsuc n) = tt
+
+pub square-is : (d : ℤ) → natAbs (d *ℤ d) ≡ natAbs d * natAbs d
+square-is (pos n) = refl
+square-is (negsuc n) = refl
+
+pub square-size : {d : ℤ} → SFits w32 d → natAbs d * natAbs d ≤ 4611686018427387904
+square-size {d} h = mul-le-mul (natAbs-le d (h .sfits)) (natAbs-le d (h .sfits))
+
+-- A number of 16 bits at 32.
+
+pub wide16 : {x : ℤ} → SFits w16 x → SFits w32 (toZ w16 (ofZ w16 x))
+wide16 {x} h = subst (SFits w32) (sym (toZ-ofZ w16 x h)) (sfits-widen tt h)
+
+pub read16 : {x : ℤ} → SFits w16 x → toZ w32 (ofZ w32 (toZ w16 (ofZ w16 x))) ≡ x
+read16 {x} h = toZ-ofZ w32 (toZ w16 (ofZ w16 x)) (wide16 h) ∙ toZ-ofZ w16 x h
+
+-- A number within n + 1 each way, as two tests leave it.
+
+module _ (n : ℕ) where
+  pub abs-over : (z : ℤ) → ltZ z (negsuc n) ≡ true → leb (natAbs z) (suc n) ≡ false
+  abs-over (pos k) h = absurd (subst T (sym h) tt)
+  abs-over (negsuc k) h = let l = ltb→lt n k (subst T (sym h) tt) in lt-leb (suc k) (suc n) (omega arith)
+
+  pub abs-up-to : (z : ℤ) → ltZ z (negsuc n) ≡ false → leZ z (pos (suc n)) ≡ leb (natAbs z) (suc n)
+  abs-up-to (pos k) h = refl
+  abs-up-to (negsuc k) h = let l = nltb→le n k (subst (λ (b : Bool). T (not b)) (sym h) tt) in sym (le-leb (suc k) (suc n) (omega arith))
+
+-- what leaves i32 is not within a limit below it
+pub abs-wide : (z : ℤ) (n : ℕ) → in32 z ≡ false → n < end32 → leb (natAbs z) n ≡ false
+unfolding in32
+abs-wide (pos k) n h l = let m = ltb-false k end32 h in lt-leb k n (omega arith)
+abs-wide (negsuc k) n h l = let m = ltb-false k end32 h in lt-leb (suc k) n (omega arith)

@@ -1,15 +1,20 @@
--- The code's own steps, which hold no rule of document 01: numbers that are in i32 or none, and what is made of them.
--- proofs/Chains.antt has that they end where specs/Maps.antt, Screening.antt and Distances.antt say.
-use Prim.Native.Nat.{_-_}
+-- The code's own steps, which hold no rule of document 01: numbers that are in i32 or none, and what is made of them;
+-- distances added up. proofs/Chains.antt and proofs/Tallying.antt have that they end where specs/Maps.antt,
+-- Screening.antt, Distances.antt and Resids.antt say.
+use Prim.Native.Nat.{ℕ, _+_, _-_, max}
 use lib.IntN.{ℤ, pos, _+ℤ_}
 use Rattle.panel.specs.Tests.{if_then_else_}
 use Rattle.panel.specs.Sizes.{width, height}
+use Rattle.panel.specs.Centroids.{total}
 use Rattle.panel.specs.declared.points.Point.{Point}
 use Rattle.panel.specs.declared.refusals.Refusal.the-variants as Refusal
 use Rattle.calmap.specs.Sizes.{twelve}
 use Rattle.calmap.specs.Wide.{in32, down}
 use Rattle.calmap.specs.Maps.{line, lineFits, spot}
 use Rattle.calmap.specs.Screening.{nudge, nudgeFits, moved}
+use Rattle.calmap.specs.Resids.{Misses, known, wide, largest}
+use Rattle.calmap.specs.declared.residuals.Tally.{Tally}
+use Rattle.calmap.specs.declared.residuals.Tally.the-variants as Tally
 use Rattle.calmap.specs.declared.units.Q16.{Q16}
 use Rattle.calmap.specs.declared.checked.Narrow.{Narrow}
 use Rattle.calmap.specs.declared.checked.Narrow.the-variants.{In, Wide}
@@ -43,3 +48,13 @@ unfoldable pub placedOf : Point → Narrow → Narrow → ScreenAnswer
 placedOf p (In u) (In v) = Screen.Answered (record { x = moved (width - 1) (p .x) u; y = moved (height - 1) (p .y) v })
 placedOf p (In u) Wide = Screen.Refused Refusal.Wide
 placedOf p Wide b = Screen.Refused Refusal.Wide
+
+-- The distance of a tap that lands within i32 from a target within i16 is at most this: the bound by which 64 of them
+-- have a sum in u32.
+abbrev pub farthest : ℕ
+farthest = 1310720
+
+-- a sum and a largest so far, and the distances still to come
+abbrev pub tallyOf : ℕ → ℕ → Misses → Tally
+tallyOf s m (known ds) = Tally.Sums (record { sum = s + total ds; most = max m (largest ds) })
+tallyOf s m wide = Tally.Wide

@@ -7,7 +7,7 @@ use Prim.Native.Nat.{ℕ}
 use mathlib.Core.Bool.{Bool, true, false}
 use mathlib.Core.List.{List, [], _∷_}
 use lib.IntN.{ℤ, pos, natAbs, _-ℤ_}
-use lib.ListN.{length}
+use lib.ListN.{length, take}
 use Rattle.panel.specs.Tests.{if_then_else_, _and_, _≤?_, _<?_}
 use Rattle.panel.specs.Points.{allOnPanel}
 use Rattle.panel.specs.Refusals.{Told, answered, refused}
@@ -59,6 +59,10 @@ checkOf c ps =
     if longest <? length ps then Refused Long
     else if allOnPanel ps then Answered (verdictOf c ps)
     else Refused Target
+
+-- the first n of an array that holds 64
+unfoldable pub checkFirst : Cal → ℕ → List Point → CheckAnswer
+checkFirst c n ps = if longest <? n then Refused Long else checkOf c (take n ps)
 
 -- a verdict, or that there is none
 pub data Judged : Type 0 where

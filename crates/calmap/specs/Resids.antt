@@ -5,7 +5,7 @@
 use Prim.Native.Nat.{ℕ, max}
 use mathlib.Core.List.{List, [], _∷_}
 use lib.IntN.{ℤ, pos, _*ℤ_}
-use lib.ListN.{length}
+use lib.ListN.{length, take}
 use Rattle.panel.specs.Tests.{if_then_else_, _<?_}
 use Rattle.panel.specs.Centroids.{mean}
 use Rattle.panel.specs.Refusals.{Told, answered, refused}
@@ -38,7 +38,7 @@ inSixteenths v = sixteenths (v *ℤ pos sixteenthsIn)
 -- from where a tap lands to its target
 abbrev pub farOff : ApplyAnswer → Tap → Dist10Answer
 farOff (Apply.Answered s) t = dist10Of (s .0) (s .1) (inSixteenths (t .x)) (inSixteenths (t .y))
-farOff (Apply.Refused r) t = Dist10.Refused r
+farOff (Apply.Refused r) t = Dist10.Refused Wide
 
 unfoldable pub missOf : Cal → Pair → Dist10Answer
 missOf c p = farOff (applyOf c (p .raw .x) (p .raw .y)) (p .tgt)
@@ -71,6 +71,10 @@ spreadOf wide = Refused Wide
 
 unfoldable pub residOf : Cal → List Pair → ResidAnswer
 residOf c ps = if longest <? length ps then Refused Long else spreadOf (missesOf c ps)
+
+-- the first n of an array that holds 64
+unfoldable pub residFirst : Cal → ℕ → List Pair → ResidAnswer
+residFirst c n ps = if longest <? n then Refused Long else residOf c (take n ps)
 
 abbrev pub toldResid : ResidAnswer → Told Spread
 toldResid (Answered s) = answered s

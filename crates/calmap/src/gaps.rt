@@ -1,8 +1,45 @@
 // How far two places are apart, in tenths of a pixel.
+ghost use mathlib.Core.Path.{_≡_};
+ghost use Prim.Native.Nat.{_*_, _≤_};
+ghost use lib.IntN.{natAbs};
+ghost use Rattle.calmap.specs.Distances.{tenthsOf, tenths, dist10Of};
+use crate::checked;
+use crate::checked::Narrow;
+use crate::roots;
+use crate::units::Sixteenths;
 use crate::units::Tenths;
 use panel::Refusal;
 
 pub enum Dist10Answer {
     Answered(Tenths),
     Refused(Refusal),
+}
+
+// It is formed at 64 bits, where it always fits: at most 2^62.
+fn square(d: i32) -> u64
+    ensures { λ r. ⌜ (r ≡ natAbs d * natAbs d) × (r ≤ 4611686018427387904) ⌝ }
+{
+    let w = d as i64;
+    (w * w) as u64
+}
+
+// A squared distance in sixteenths of a pixel, as a distance in tenths.
+fn in_tenths(d2: u64) -> Tenths
+    ensures { λ r. ⌜ r ≡ tenths (tenthsOf d2) ⌝ }
+{
+    Tenths((roots::isqrt(d2) * 10 / 16) as u32)
+}
+
+// The distance of two places in tenths of a pixel. The sum of the two squares is unsigned, so that
+// the largest of them, 2^63, has a root as well.
+pub fn dist10(ax: Sixteenths, ay: Sixteenths, bx: Sixteenths, by: Sixteenths) -> Dist10Answer
+    ensures { λ r. ⌜ r ≡ dist10Of ax ay bx by ⌝ }
+{
+    let Narrow::In(dx) = checked::minus(ax, bx) else {
+        return Dist10Answer::Refused(Refusal::Wide);
+    };
+    let Narrow::In(dy) = checked::minus(ay, by) else {
+        return Dist10Answer::Refused(Refusal::Wide);
+    };
+    Dist10Answer::Answered(in_tenths(square(dx) + square(dy)))
 }

@@ -7,6 +7,7 @@ ghost use Rattle.calmap.specs.Screening.{clamp, moved, screenOf};
 ghost use Rattle.calmap.specs.Checked.{nudgeOf, placedOf};
 use crate::checked;
 use crate::checked::Narrow;
+use crate::pixels;
 use crate::units::Cal;
 use crate::units::Q16;
 use panel::HEIGHT;
@@ -22,12 +23,6 @@ pub enum ScreenAnswer {
 // Half a pixel in steps, so that the shift that follows rounds to the nearest.
 const HALF: Q16 = Q16(0x8000);
 
-fn widen(v: u16) -> i32
-    ensures { λ r. ⌜ r ≡ pos v ⌝ }
-{
-    v as i32
-}
-
 // p·x + q·y + k and a half in i32, from left to right.
 fn nudge(p: Q16, q: Q16, k: Q16, x: i32, y: i32) -> Narrow
     ensures { λ r. ⌜ r ≡ nudgeOf p q k x y ⌝ }
@@ -41,7 +36,7 @@ fn nudge(p: Q16, q: Q16, k: Q16, x: i32, y: i32) -> Narrow
 fn moved_by(v: u16, s: i32) -> i32
     ensures { λ r. ⌜ r ≡ pos v +ℤ down sixteen s ⌝ }
 {
-    widen(v) + (s >> 16)
+    pixels::of_u16(v) + (s >> 16)
 }
 
 // m, held to 0..last.
@@ -84,8 +79,8 @@ fn placed(p: Point, dx: Narrow, dy: Narrow) -> ScreenAnswer
 pub fn screen(c: Cal, p: Point) -> ScreenAnswer
     ensures { λ r. ⌜ r ≡ screenOf c p ⌝ }
 {
-    let x = widen(p.x);
-    let y = widen(p.y);
+    let x = pixels::of_u16(p.x);
+    let y = pixels::of_u16(p.y);
     let dx = nudge(c.c0, c.c1, c.c2, x, y);
     let dy = nudge(c.c3, c.c4, c.c5, x, y);
     placed(p, dx, dy)

@@ -21,6 +21,9 @@ pub struct Cal {
     pub c5: Q16,
 }
 
+// The most pairs in use, and the most targets.
+pub const MAX_TAPS: usize = 64;
+
 // A point in pixels that need not be on the panel: a raw tap, or where it should have been.
 pub struct Tap {
     pub x: i16,

@@ -8,11 +8,11 @@ use Rattle.calmap.proofs.Chains.{screen-chain}
 use Rattle.calmap.proofs.screens.screen.Statement.{statement}
 use Rattle.calmap.proofs.screens.screen.Tie as tie
 
-widen-requires : tie.Need-widen-requires
-widen-requires c κs = search needs
+of-u16-requires : tie.Need-of-u16-requires
+of-u16-requires c κs = search needs
 
-widen-requires-2 : tie.Need-widen-requires-2
-widen-requires-2 c κs = search needs
+of-u16-requires-2 : tie.Need-of-u16-requires-2
+of-u16-requires-2 c κs = search needs
 
 nudge-requires : tie.Need-nudge-requires
 nudge-requires c κs = search needs
@@ -26,8 +26,8 @@ placed-requires c κs = search needs
 returns : tie.Need-returns
 returns c = let s = c .before .before .before .before .before in
     let k = s .args .c in
-    let wx = c .before .before .before .before .widen in
-    let wy = c .before .before .before .widen2 in
+    let wx = c .before .before .before .before .of-u16 in
+    let wy = c .before .before .before .of-u162 in
     let fx : SFits w32 (wx .result) = search needs in
     let fy : SFits w32 (wy .result) = search needs in
     let ex = plain fx ∙ wx .ensures in
@@ -40,8 +40,8 @@ pub screen-spec : {M : Type 1} → statement M
 screen-spec =
     tie.close
     (tie.spec
-    widen-requires
-    widen-requires-2
+    of-u16-requires
+    of-u16-requires-2
     nudge-requires
     nudge-requires-2
     placed-requires
