@@ -1,13 +1,19 @@
 // The fit of a calibration to taps: the solution of the least squares, how far the taps are from it
 // and how far they were without it, and the verdict.
 ghost use mathlib.Core.Path.{_≡_};
-ghost use Rattle.touchcal.specs.Fits.{judgedBy, fitWith, weighed};
+ghost use Rattle.touchcal.specs.Fits.{judgedBy, fitWith, weighed, fitFirst};
+use crate::floats;
+use crate::solving;
+use crate::solving::Solved;
 use calmap::Cal;
 use calmap::CheckAnswer;
+use calmap::MAX_TAPS;
+use calmap::Pair;
 use calmap::ResidAnswer;
 use calmap::Spread;
 use calmap::Tenths;
 use calmap::Verdict;
+use panel::Point;
 use panel::Refusal;
 
 // The largest residual of an accepted fit, in tenths of a pixel.
@@ -75,4 +81,24 @@ fn weigh(c: Cal, after: ResidAnswer, before: ResidAnswer, check: CheckAnswer) ->
         },
         ResidAnswer::Refused(r) => FitAnswer::Refused(r),
     }
+}
+
+// The fit of the first n pairs, judged over the first m targets. What check refuses it refuses for
+// any calibration, so that none at all tells whether the targets can be judged.
+pub fn fit_of(pairs: [Pair; MAX_TAPS], n: usize, targets: [Point; MAX_TAPS], m: usize) -> FitAnswer
+    ensures { λ r. ⌜ r ≡ fitFirst n pairs m targets ⌝ }
+{
+    let none = floats::no_cal();
+    if MAX_TAPS < n {
+        return FitAnswer::Refused(Refusal::Long);
+    }
+    if let CheckAnswer::Refused(r) = calmap::check_of(none, targets, m) {
+        return FitAnswer::Refused(r);
+    }
+    let Solved::Is(c) = solving::solve(pairs, n) else {
+        return FitAnswer::Refused(Refusal::NoFit);
+    };
+    let after = calmap::resid_of(c, pairs, n);
+    let before = calmap::resid_of(none, pairs, n);
+    weigh(c, after, before, calmap::check_of(c, targets, m))
 }

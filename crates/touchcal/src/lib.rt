@@ -9,6 +9,7 @@ mod solving;
 
 pub use fitting::Fit;
 pub use fitting::FitAnswer;
+pub use fitting::fit_of;
 pub use floats::CalAnswer;
 pub use floats::Coefs;
 pub use floats::Q16Answer;

@@ -5,11 +5,9 @@ ghost use Prim.Native.Nat.{_≤_};
 ghost use lib.ListN.{take};
 ghost use Rattle.calmap.specs.Sizes.{longest};
 ghost use Rattle.touchcal.specs.Moments.{placeOf, addPair, totalsOf, sharedOf, addAbout, sumsOf, momentsOf};
+use calmap::MAX_TAPS;
 use calmap::Pair;
 use calmap::Tap;
-
-// The most pairs that a fit takes.
-pub const LONGEST: usize = 64;
 
 // A tap in floats.
 pub struct Place {
@@ -66,7 +64,7 @@ fn add_pair(t: Means, p: Pair) -> Means
 }
 
 // The coordinates of the first n pairs, added up.
-fn totals(pairs: [Pair; LONGEST], n: usize) -> Means
+fn totals(pairs: [Pair; MAX_TAPS], n: usize) -> Means
     requires { ⌜ n ≤ longest ⌝ }
     ensures { λ r. ⌜ r ≡ totalsOf (take n pairs) ⌝ }
 {
@@ -121,7 +119,7 @@ fn add_about(m: Means, s: Sums, p: Pair) -> Sums
 }
 
 // The products of the first n pairs about the means, added up.
-fn sums_about(pairs: [Pair; LONGEST], n: usize, m: Means) -> Sums
+fn sums_about(pairs: [Pair; MAX_TAPS], n: usize, m: Means) -> Sums
     requires { ⌜ n ≤ longest ⌝ }
     ensures { λ r. ⌜ r ≡ sumsOf m (take n pairs) ⌝ }
 {
@@ -144,7 +142,7 @@ fn sums_about(pairs: [Pair; LONGEST], n: usize, m: Means) -> Sums
 }
 
 // The means and the sums of the first n pairs.
-pub(crate) fn moments_of(pairs: [Pair; LONGEST], n: usize) -> Moments
+pub(crate) fn moments_of(pairs: [Pair; MAX_TAPS], n: usize) -> Moments
     requires { ⌜ n ≤ longest ⌝ }
     ensures { λ r. ⌜ r ≡ momentsOf (take n pairs) ⌝ }
 {

@@ -8,10 +8,10 @@ use crate::floats;
 use crate::floats::CalAnswer;
 use crate::floats::Coefs;
 use crate::moments;
-use crate::moments::LONGEST;
 use crate::moments::Moments;
 use crate::moments::Sums;
 use calmap::Cal;
+use calmap::MAX_TAPS;
 use calmap::Pair;
 
 // The fewest pairs that have an affine map.
@@ -87,7 +87,7 @@ fn deltas(v: Coefs) -> Coefs
 }
 
 // The calibration nearest to the first n pairs, or why there is none.
-pub(crate) fn solve(pairs: [Pair; LONGEST], n: usize) -> Solved
+pub(crate) fn solve(pairs: [Pair; MAX_TAPS], n: usize) -> Solved
     requires { ⌜ n ≤ longest ⌝ }
     ensures { λ r. ⌜ r ≡ solvedOf (take n pairs) ⌝ }
 {
