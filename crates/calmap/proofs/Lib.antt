@@ -9,3 +9,4 @@ mod Tallying
 mod Bounds
 mod Judging
 mod Firsts
+mod Holding

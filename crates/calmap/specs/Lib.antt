@@ -9,3 +9,4 @@ pub mod Distances
 pub mod Resids
 pub mod Checks
 pub mod Checked
+pub mod Held

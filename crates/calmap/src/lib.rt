@@ -3,6 +3,7 @@
 // residuals of a calibration and the verdict on it. What it works out in floats stands in the crate above.
 mod checked;
 mod gaps;
+mod held;
 mod limits;
 mod mapping;
 mod pixels;
@@ -13,6 +14,11 @@ mod units;
 
 pub use gaps::Dist10Answer;
 pub use gaps::dist10;
+pub use held::Pairs;
+pub use held::Points;
+pub use held::Taps;
+pub use held::check_held;
+pub use held::resid_held;
 pub use limits::CheckAnswer;
 pub use limits::Verdict;
 pub use limits::check_of;

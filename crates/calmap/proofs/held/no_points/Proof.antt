@@ -1,0 +1,11 @@
+use Rattle.calmap.specs.Held.{filled, heldPoints}
+use mathlib.Core.Path.{refl}
+use Rattle.calmap.proofs.held.no_points.Statement.{statement}
+use Rattle.calmap.proofs.held.no_points.Tie as tie
+
+returns : tie.Need-returns
+unfolding heldPoints filled
+returns c = refl
+
+pub no-points-spec : {M : Type 1} → statement M
+no-points-spec = tie.close (tie.spec returns)

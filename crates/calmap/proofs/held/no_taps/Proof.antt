@@ -1,0 +1,11 @@
+use Rattle.calmap.specs.Held.{filled, heldTaps}
+use mathlib.Core.Path.{refl}
+use Rattle.calmap.proofs.held.no_taps.Statement.{statement}
+use Rattle.calmap.proofs.held.no_taps.Tie as tie
+
+returns : tie.Need-returns
+unfolding heldTaps filled
+returns c = refl
+
+pub no-taps-spec : {M : Type 1} → statement M
+no-taps-spec = tie.close (tie.spec returns)
