@@ -1,20 +1,23 @@
 -- The first pairs and the first targets of arrays that hold 64: where `fit` refuses them, and what it comes to where it does not. The
 -- targets are refused as `check` refuses them, for any calibration. Assumes nothing.
-use mathlib.Core.Path.{_≡_, refl}
+use mathlib.Core.Path.{_≡_, refl, sym, _∙_}
 use mathlib.Core.Bool.{Bool, true, false}
 use mathlib.Core.List.{List}
 use Prim.Native.Nat.{ℕ, _≤_, _<_}
 use native.Mathlib.Omega.{arith}
-use borrow.Author.Tests.{le-ltb, lt-ltb}
+use borrow.Author.Tests.{le-ltb, lt-ltb, ltb-false}
 use lib.ListN.{length, take, length-take}
+use Rattle.calmap.specs.Held.{heldPairs, heldPoints}
+use Rattle.calmap.specs.declared.units.Tap.{Tap}
+use Rattle.calmap.proofs.Holding.{pairs-long, pairs-count, pairs-all, points-long, points-count, points-all}
 use Rattle.panel.specs.Tests.{if_then_else_, _or_, _<?_}
 use Rattle.panel.specs.Points.{allOnPanel}
 use Rattle.panel.specs.declared.points.Point.{Point}
 use Rattle.panel.specs.declared.refusals.Refusal.{Refusal}
 use Rattle.panel.specs.declared.refusals.Refusal.the-variants.{Long, Target}
-use Rattle.panel.proofs.Follow.{follow, if-false, or-false}
+use Rattle.panel.proofs.Follow.{follow, if-true, if-false, or-false}
 use Rattle.calmap.specs.Sizes.{longest}
-use Rattle.calmap.specs.Resids.{residOf, residFirst}
+use Rattle.calmap.specs.Resids.{pairsOf, residOf, residFirst}
 use Rattle.calmap.specs.Checks.{verdictOf, checkOf, checkFirst}
 use Rattle.calmap.specs.declared.units.Cal.{Cal}
 use Rattle.calmap.specs.declared.units.Pair.{Pair}
@@ -22,9 +25,14 @@ use Rattle.calmap.specs.declared.limits.Verdict.{Verdict}
 use Rattle.calmap.specs.declared.limits.CheckAnswer.{CheckAnswer}
 use Rattle.calmap.specs.declared.limits.CheckAnswer.the-variants as Check
 use Rattle.touchcal.specs.Solutions.{solvedOf}
-use Rattle.touchcal.specs.Fits.{fitted, fitOf, fitFirst}
+use Rattle.touchcal.specs.Fits.{fitted, fitOf, fitFirst, fitHeld}
 use Rattle.touchcal.specs.declared.fitting.FitAnswer.{FitAnswer}
 use Rattle.touchcal.specs.declared.fitting.FitAnswer.the-variants.{Answered, Refused}
+use Rattle.touchcal.proofs.Choices.{neither-left, neither-right}
+
+by-test : {X : Type 0} (b : Bool) → (b ≡ true → X) → (b ≡ false → X) → X
+by-test true f g = f refl
+by-test false f g = g refl
 
 -- the same three tests, of `check` and of `fit`
 abbrev of-check : Bool → Bool → Bool → CheckAnswer → CheckAnswer
@@ -83,3 +91,24 @@ module _ (n : ℕ) (ps : List Pair) (m : ℕ) (ts : List Point) where
     pub check-first : (c d : Cal) (v : Verdict) → checkFirst d m ts ≡ Check.Answered v → checkFirst c m ts ≡ checkOf c (take m ts)
     unfolding checkFirst
     check-first c d v e = if-false _ _ _ (not-refused _ _ v e)
+
+-- ---- what is held of lists, as calmap holds them, gives what the lists give
+
+module _ (raw tgt : List Tap) (ts : List Point) where
+  abbrev ps : List Pair
+  ps = pairsOf raw tgt
+
+  held-long : longest <? length ps or longest <? length ts ≡ true → fitHeld (heldPairs raw tgt) (heldPoints ts) ≡ fitOf ps ts
+  unfolding fitHeld fitOf
+  held-long h = rw (pairs-long raw tgt, points-long ts) (if-true _ _ _ h ∙ sym (if-true _ _ _ h))
+
+  held-short : longest <? length ps or longest <? length ts ≡ false → fitHeld (heldPairs raw tgt) (heldPoints ts) ≡ fitOf ps ts
+  unfolding fitHeld fitFirst
+  held-short h =
+      let few = ltb-false longest (length ps) (neither-left _ _ h) in
+      let few′ = ltb-false longest (length ts) (neither-right _ _ h) in
+      let counted : longest <? heldPairs raw tgt .n or longest <? heldPoints ts .n ≡ false = rw (pairs-count raw tgt few, points-count ts few′) h in
+      rw (pairs-long raw tgt, points-long ts) (if-false _ _ _ h ∙ if-false _ _ _ counted ∙ (λ i. fitOf (pairs-all raw tgt few i) (points-all ts few′ i)))
+
+  pub fit-of-held : fitHeld (heldPairs raw tgt) (heldPoints ts) ≡ fitOf ps ts
+  fit-of-held = by-test (longest <? length ps or longest <? length ts) held-long held-short

@@ -93,27 +93,6 @@ module _ (ps : List Pair) (ts : List Point) (few : longest <? length ps ≡ fals
   solution-tells (Is c) = rw (resid-is ps ts few few′ on c, resid-is ps ts few few′ on identity, check-is ps ts few few′ on c) (misses-tell c ts (missesOf c ps) (missesOf identity ps))
   solution-tells (Not f) = refl
 
--- a choice, where its test is known inside
-pub if-then : {A : Type 0} (b : Bool) (x x′ y : A) → (b ≡ true → x ≡ x′) → (if b then x else y) ≡ (if b then x′ else y)
-unfolding if_then_else_
-if-then true x x′ y h = h refl
-if-then false x x′ y h = refl
-
-pub if-else : {A : Type 0} (b : Bool) (x y y′ : A) → (b ≡ false → y ≡ y′) → (if b then x else y) ≡ (if b then x else y′)
-unfolding if_then_else_
-if-else true x y y′ h = refl
-if-else false x y y′ h = h refl
-
-pub neither-left : (a b : Bool) → a or b ≡ false → a ≡ false
-unfolding _or_
-neither-left true b e = e
-neither-left false b e = refl
-
-pub neither-right : (a b : Bool) → a or b ≡ false → b ≡ false
-unfolding _or_
-neither-right true b e = absurd (true≢false e)
-neither-right false b e = e
-
 -- ---- the residuals and the verdict of a fit that is answered
 
 pub record Measured (ps : List Pair) (ts : List Point) (f : Fit) : Type 0 where

@@ -24,7 +24,8 @@ use Rattle.touchcal.specs.declared.floats.CalAnswer.the-variants as CalA
 use Rattle.touchcal.specs.declared.scpi.Pending.{Pending}
 use Rattle.touchcal.specs.declared.scpi.TakeAnswer.the-variants.{Taken, Nothing}
 use Rattle.touchcal.proofs.Reach.{allReach, nearestCal, steps-are}
-use Rattle.touchcal.proofs.Fitted.{tells, zeros, bySolution, solution-tells, if-then, if-else, neither-left, neither-right}
+use Rattle.touchcal.proofs.Fitted.{tells, zeros, bySolution, solution-tells}
+use Rattle.touchcal.proofs.Choices.{if-then, if-else, neither-left, neither-right}
 
 -- HUGE, number 7 and a zero, exactly out of reach.
 pub q16-tells : (v : Float) → toldQ16 (q16Of v) ≡ (if inReach v then tells 0 (nearestStep v) else tells 7 (record { 0 = pos 0 }))

@@ -11,11 +11,7 @@ use Rattle.touchcal.specs.Floats.{inReach, nearestStep, q16Of, inSteps, 
 use Rattle.touchcal.specs.declared.floats.Coefs.{Coefs}
 use Rattle.touchcal.specs.declared.floats.CalAnswer.{CalAnswer}
 use Rattle.touchcal.specs.declared.floats.CalAnswer.the-variants.{Answered, Refused}
-
-pub if-and : {A : Type 0} (a b : Bool) (x y : A) → (if a and b then x else y) ≡ (if a then (if b then x else y) else y)
-unfolding if_then_else_ _and_
-if-and true b x y = refl
-if-and false b x y = refl
+use Rattle.touchcal.proofs.Choices.{if-and}
 
 one-step : (v : Float) (next : Q16 → CalAnswer) → inSteps (q16Of v) next ≡ (if inReach v then next (nearestStep v) else Refused Huge)
 unfolding q16Of inSteps

@@ -18,6 +18,8 @@ use Rattle.calmap.specs.Checks.{checkOf, Judged, none, judged}
 use Rattle.calmap.specs.declared.units.Cal.{Cal}
 use Rattle.calmap.specs.declared.units.Pair.{Pair}
 use Rattle.calmap.specs.declared.units.Tenths.{Tenths}
+use Rattle.calmap.specs.declared.held.Pairs.{Pairs}
+use Rattle.calmap.specs.declared.held.Points.{Points}
 use Rattle.calmap.specs.declared.residuals.Spread.{Spread}
 use Rattle.calmap.specs.declared.residuals.ResidAnswer.{ResidAnswer}
 use Rattle.calmap.specs.declared.residuals.ResidAnswer.the-variants as Resid
@@ -67,6 +69,12 @@ unfoldable pub fitFirst : ℕ → List Pair → ℕ → List Point → FitAnswer
 fitFirst n ps m ts =
     if longest <? n or longest <? m then Refused Long
     else fitOf (take n ps) (take m ts)
+
+-- what is held of lent lists, as calmap holds them
+unfoldable pub fitHeld : Pairs → Points → FitAnswer
+fitHeld a t =
+    if a .long or t .long then Refused Long
+    else fitFirst (a .n) (a .list) (t .n) (t .list)
 
 -- what a fit tells; zeros and no verdict for a refusal
 pub record Tells : Type 0 where

@@ -1,7 +1,7 @@
 // The fit of a calibration to taps: the solution of the least squares, how far the taps are from it
 // and how far they were without it, and the verdict.
 ghost use mathlib.Core.Path.{_≡_};
-ghost use Rattle.touchcal.specs.Fits.{judgedBy, fitWith, weighed, fitFirst};
+ghost use Rattle.touchcal.specs.Fits.{judgedBy, fitWith, weighed, fitFirst, fitHeld};
 use crate::floats;
 use crate::solving;
 use crate::solving::Solved;
@@ -9,6 +9,8 @@ use calmap::Cal;
 use calmap::CheckAnswer;
 use calmap::MAX_TAPS;
 use calmap::Pair;
+use calmap::Pairs;
+use calmap::Points;
 use calmap::ResidAnswer;
 use calmap::Spread;
 use calmap::Tenths;
@@ -101,4 +103,19 @@ pub fn fit_of(pairs: [Pair; MAX_TAPS], n: usize, targets: [Point; MAX_TAPS], m: 
     let after = calmap::resid_of(c, pairs, n);
     let before = calmap::resid_of(none, pairs, n);
     weigh(c, after, before, calmap::check_of(c, targets, m))
+}
+
+// The fit of what is held of lent lists.
+pub fn fit_held(a: Pairs, t: Points) -> FitAnswer
+    ensures { λ r. ⌜ r ≡ fitHeld a t ⌝ }
+{
+    let pairs = a.list;
+    let targets = t.list;
+    if a.long {
+        return FitAnswer::Refused(Refusal::Long);
+    }
+    if t.long {
+        return FitAnswer::Refused(Refusal::Long);
+    }
+    fit_of(pairs, a.n, targets, t.n)
 }

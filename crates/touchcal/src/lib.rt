@@ -3,12 +3,14 @@
 // the map itself and its checks, is crate calmap.
 mod fitting;
 mod floats;
+mod lent;
 mod moments;
 mod scpi;
 mod solving;
 
 pub use fitting::Fit;
 pub use fitting::FitAnswer;
+pub use fitting::fit_held;
 pub use fitting::fit_of;
 pub use floats::CalAnswer;
 pub use floats::Coefs;
@@ -16,6 +18,7 @@ pub use floats::Q16Answer;
 pub use floats::from_f32;
 pub use floats::q16;
 pub use floats::to_f32;
+pub use lent::fit;
 pub use scpi::Pending;
 pub use scpi::PutAnswer;
 pub use scpi::TakeAnswer;
