@@ -1,4 +1,10 @@
--- What the crates above may cite stands first. The other modules serve this crate's own proofs.
+-- What the crates above may cite: `Laws`; `Firsts` and `Holding`, how `resid` and `check` of an array by value and of what
+-- is held of a lent list are those of the list; `Promises`. The other modules serve this crate's own proofs.
+pub mod Laws
+pub mod Bounds
+pub mod Firsts
+pub mod Holding
+pub mod Promises
 mod Signed
 mod Chains
 mod Floors
@@ -6,7 +12,4 @@ mod Rooted
 mod Newton
 mod Walking
 mod Tallying
-mod Bounds
 mod Judging
-mod Firsts
-mod Holding

@@ -1,0 +1,59 @@
+-- The laws that callers cite in place of the definitions' text: the root is the largest whose square is at most v; the
+-- shift rounds toward minus infinity; what `screen` adds up is always in i32; where a point lands, and how far tenths
+-- reach. Assumes nothing.
+use mathlib.Core.Path.{_≡_}
+use mathlib.Core.Bool.{true}
+use Prim.Native.Nat.{ℕ, _+_, _*_, _/_, _^_, _≤_, _<_}
+use borrow.Author.Tests.{ltb-true}
+use lib.IntN.{ℤ, pos, _+ℤ_, _*ℤ_}
+use lib.Signed.{_≤ℤ_, _<ℤ_}
+use Rattle.calmap.specs.Sizes.{sixteen, tenthsIn, sixteenthsIn}
+use Rattle.calmap.specs.Wide.{in32, down}
+use Rattle.calmap.specs.Maps.{applyOf}
+use Rattle.calmap.specs.Roots.{IsRoot, rootOf}
+use Rattle.calmap.specs.Distances.{tenthsOf}
+use Rattle.calmap.specs.declared.units.Cal.{Cal}
+use Rattle.calmap.specs.declared.mapping.Spot.{Spot}
+use Rattle.calmap.specs.declared.mapping.ApplyAnswer.the-variants.{Answered}
+use Rattle.calmap.proofs.Signed.{in32-yes}
+use Rattle.calmap.proofs.Floors as Floors
+use Rattle.calmap.proofs.Rooted as Rooted
+use Rattle.calmap.proofs.Bounds as Bounds
+
+-- The root.
+
+module _ (v : ℕ) (h : v < 2 ^ 64) where
+  pub root-below : rootOf v * rootOf v ≤ v
+  root-below = Rooted.root-is v h .below
+
+  pub root-above : v < (rootOf v + 1) * (rootOf v + 1)
+  root-above = Rooted.root-is v h .above
+
+  pub root-only : (r : ℕ) → r * r ≤ v → v < (r + 1) * (r + 1) → r ≡ rootOf v
+  root-only r lo hi = Rooted.one-root {v = v} (record { below = lo; above = hi }) (Rooted.root-is v h)
+
+  -- of what is at most a square, the root is at most its side
+  pub root-at-most : (r : ℕ) → v ≤ r * r → rootOf v ≤ r
+  root-at-most r l = Rooted.root-at-most v h r l
+
+  -- and the tenths are at most the side's
+  pub tenths-at-most : (r : ℕ) → v ≤ r * r → tenthsOf v ≤ r * tenthsIn / sixteenthsIn
+  tenths-at-most r l = Bounds.tenths-at-most v r h l
+
+-- The shift: with m for 2 ^ places and q for what is left, m·q ≤ z < m·(q + 1).
+
+pub down-below : (places : ℕ) (z : ℤ) → (pos (2 ^ places) *ℤ down places z) ≤ℤ z
+down-below places z = Floors.down-below places z
+
+pub down-above : (places : ℕ) (z : ℤ) → z <ℤ (pos (2 ^ places) *ℤ (down places z +ℤ pos 1))
+down-above places z = Floors.down-above places z
+
+-- `screen` adds to a coordinate of 16 bits what is left of an i32, shifted down sixteen: that is in i32, so there is no
+-- third way to be WIDE.
+pub moved-in32 : (v : ℕ) (s : ℤ) → v < 65536 → in32 s ≡ true → in32 (pos v +ℤ down sixteen s) ≡ true
+unfolding in32
+moved-in32 v s hv hs = in32-yes (pos v +ℤ down sixteen s) (Floors.moved-fits v s hv (ltb-true _ _ hs))
+
+-- Where a point lands: within 19 bits each way. So the distances of `resid` fit, and so does a target's shift in `check`.
+pub lands : (c : Cal) (x y : ℤ) (s : Spot) → applyOf c x y ≡ Answered s → Bounds.Lands s
+lands c x y s e = Bounds.applied-size c x y s e

@@ -1,0 +1,81 @@
+-- The public calls in document 01's numbers: what each tells for every input. That a contract of the form r ≡ definition
+-- leaves no second answer is `one-answer` of panel's proofs/Promises.antt. Assumes nothing.
+use mathlib.Core.Path.{_≡_, refl, sym, ap, _∙_}
+use mathlib.Core.Bool.{Bool, true, false}
+use mathlib.Core.List.{List, [], _∷_}
+use Prim.Native.Nat.{ℕ, _-_, _^_, _<_}
+use lib.IntN.{ℤ, pos, _-ℤ_}
+use lib.ListN.{length}
+use Rattle.panel.specs.Tests.{if_then_else_, _and_, _<?_}
+use Rattle.panel.specs.Sizes.{width, height}
+use Rattle.panel.specs.Refusals.{Told}
+use Rattle.panel.specs.Centroids.{mean}
+use Rattle.panel.specs.Points.{allOnPanel}
+use Rattle.panel.specs.declared.points.Point.{Point}
+use Rattle.panel.proofs.Follow.{if-of}
+use Rattle.calmap.specs.Sizes.{longest, twelve}
+use Rattle.calmap.specs.Wide.{in32, in16, down}
+use Rattle.calmap.specs.Maps.{line, lineFits, spot, applyOf, toldApply}
+use Rattle.calmap.specs.Screening.{nudge, nudgeFits, moved, screenOf, toldScreen}
+use Rattle.calmap.specs.Roots.{IsRoot, rootOf}
+use Rattle.calmap.specs.Distances.{squared, tenths, tenthsOf, dist10Of, toldDist10}
+use Rattle.calmap.specs.Resids.{Misses, known, wide, missesOf, largest, spread, spreadOf, residOf, toldResid}
+use Rattle.calmap.specs.Checks.{Judged, none, judged, scaleHolds, allStay, verdictOf, checkOf, toldCheck}
+use Rattle.calmap.specs.declared.units.Cal.{Cal}
+use Rattle.calmap.specs.declared.units.Pair.{Pair}
+use Rattle.calmap.specs.declared.units.Sixteenths.{Sixteenths}
+use Rattle.calmap.specs.declared.residuals.Spread.{Spread}
+use Rattle.calmap.specs.declared.limits.Verdict.the-variants.{Pass, Scale, Shift}
+use Rattle.calmap.proofs.Rooted.{root-is}
+
+abbrev tells : {A : Type 0} → ℕ → A → Told A
+tells n a = record { number = n; value = a }
+
+-- WIDE, number 3 and zeros, exactly if x or y is outside i16, or a product or partial sum leaves i32.
+pub apply16-tells : (c : Cal) (x y : ℤ) → toldApply (applyOf c x y)
+    ≡ if_then_else_ (_and_ (in16 x) (_and_ (in16 y) (_and_ (lineFits x (c .c0) (c .c1) (c .c2) x y) (lineFits y (c .c3) (c .c4) (c .c5) x y))))
+    (tells 0 (spot (down twelve (line x (c .c0) (c .c1) (c .c2) x y)) (down twelve (line y (c .c3) (c .c4) (c .c5) x y))))
+    (tells 3 (spot (pos 0) (pos 0)))
+unfolding applyOf
+apply16-tells c x y = if-of toldApply _ _ _
+
+-- WIDE exactly if a product or partial sum leaves i32; never for where the point is.
+pub screen-tells : (c : Cal) (p : Point) → toldScreen (screenOf c p)
+    ≡ if_then_else_ (_and_ (nudgeFits (c .c0) (c .c1) (c .c2) (pos (p .x)) (pos (p .y))) (nudgeFits (c .c3) (c .c4) (c .c5) (pos (p .x)) (pos (p .y))))
+    (tells 0 (record { x = moved (width - 1) (p .x) (nudge (c .c0) (c .c1) (c .c2) (pos (p .x)) (pos (p .y))); y = moved (height - 1) (p .y) (nudge (c .c3) (c .c4) (c .c5) (pos (p .x)) (pos (p .y))) }))
+    (tells 3 (record { x = 0; y = 0 }))
+unfolding screenOf
+screen-tells c p = if-of toldScreen _ _ _
+
+-- Every u64 is answered, with the largest r with r·r ≤ v.
+pub isqrt-tells : (v : ℕ) → v < 2 ^ 64 → IsRoot (rootOf v) v
+isqrt-tells v h = root-is v h
+
+-- WIDE exactly if a coordinate difference leaves i32.
+pub dist10-tells : (ax ay bx by : Sixteenths) → toldDist10 (dist10Of ax ay bx by)
+    ≡ if_then_else_ (_and_ (in32 (ax .0 -ℤ bx .0)) (in32 (ay .0 -ℤ by .0))) (tells 0 (tenths (tenthsOf (squared (ax .0 -ℤ bx .0) (ay .0 -ℤ by .0))))) (tells 3 (tenths 0))
+unfolding dist10Of
+dist10-tells ax ay bx by = if-of toldDist10 _ _ _
+
+-- LONG, number 4, exactly for more than 64 pairs; else WIDE exactly if a tap has no distance; else mean and largest.
+abbrev toldMisses : Misses → Told Spread
+toldMisses (known ds) = tells 0 (spread (mean ds) (largest ds))
+toldMisses wide = tells 3 (spread 0 0)
+
+spread-told : (ms : Misses) → toldResid (spreadOf ms) ≡ toldMisses ms
+spread-told (known ds) = refl
+spread-told wide = refl
+
+pub resid-tells : (c : Cal) (ps : List Pair) → toldResid (residOf c ps) ≡ if_then_else_ (longest <? length ps) (tells 4 (spread 0 0)) (toldMisses (missesOf c ps))
+unfolding residOf
+resid-tells c ps = if-of toldResid _ _ _ ∙ ap (if_then_else_ (longest <? length ps) (tells 4 (spread 0 0))) (spread-told (missesOf c ps))
+
+-- LONG, number 4, exactly for more than 64 targets; else TARGET, number 5, exactly for one off the panel; else the verdict.
+pub check-tells : (c : Cal) (ps : List Point) → toldCheck (checkOf c ps)
+    ≡ if_then_else_ (longest <? length ps) (tells 4 none) (if_then_else_ (allOnPanel ps) (tells 0 (judged (verdictOf c ps))) (tells 5 none))
+unfolding checkOf
+check-tells c ps = if-of toldCheck _ _ _ ∙ ap (if_then_else_ (longest <? length ps) (tells 4 none)) (if-of toldCheck _ _ _)
+
+pub verdict-is : (c : Cal) (ps : List Point) → verdictOf c ps ≡ if_then_else_ (scaleHolds c) (if_then_else_ (allStay c ps) Pass Shift) Scale
+unfolding verdictOf
+verdict-is c ps = refl
