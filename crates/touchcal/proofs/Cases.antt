@@ -1,15 +1,17 @@
--- Document 01's case of `fit`, on both sides of the line: "Corners (0,0) to (100,100) onto themselves +41 in x, target (240,160): c2 2,686,976,
--- mean 0, max 0, before 410, Shift. +40 passes." Computed from the definitions. Assumes nothing.
+-- Cases computed from the definitions. Document 01's case of `fit`, on both sides of the line: "Corners (0,0) to (100,100) onto themselves +41 in x, target (240,160): c2 2,686,976,
+-- mean 0, max 0, before 410, Shift. +40 passes." An input for each refusal, and the edges of `q16`. Assumes nothing.
 use mathlib.Core.Path.{_≡_, refl}
+use mathlib.Core.Bool.{true, false}
 use mathlib.Core.List.{List, [], _∷_, map}
 use Prim.Native.Nat.{ℕ, _+_}
 use lib.IntN.{ℤ, pos, negsuc}
 use lib.ListN.{replicate}
-use lib.Ieee.{ofBits, add, sub, mul, div, lt, ofInt, toSigned}
+use lib.Ieee.{nan, fin, ofBits, add, sub, mul, div, lt, ofInt, toSigned}
 use Rattle.panel.specs.Tests.{if_then_else_, _and_, _or_}
 use Rattle.panel.specs.Points.{onPanel, allOnPanel}
 use Rattle.panel.specs.Centroids.{total, mean}
 use Rattle.panel.specs.declared.points.Point.{Point}
+use Rattle.panel.specs.declared.refusals.Refusal.the-variants.{Huge}
 use Rattle.calmap.specs.Wide.{in32, in16, down}
 use Rattle.calmap.specs.Maps.{line, lineFits, applyOf}
 use Rattle.calmap.specs.Roots.{digit, rootBy, rootOf}
@@ -18,13 +20,14 @@ use Rattle.calmap.specs.Resids.{missOf, missesOf, largest, residOf}
 use Rattle.calmap.specs.Checks.{mild, scaleHolds, near, stays, allStay, verdictOf, checkOf}
 use Rattle.calmap.specs.declared.units.Cal.{Cal}
 use Rattle.calmap.specs.declared.units.Q16.{Q16}
-use Rattle.calmap.specs.declared.units.Tap.{Tap}
 use Rattle.calmap.specs.declared.units.Pair.{Pair}
 use Rattle.calmap.specs.declared.limits.Verdict.the-variants.{Pass, Shift}
-use Rattle.touchcal.specs.Floats.{inReach, halfAway, nearestStep, q16Of, inSteps, stepsOf}
+use Rattle.touchcal.specs.Sizes.{zero32, one32}
+use Rattle.touchcal.specs.Floats.{inReach, halfAway, nearestStep, q16Of, outOf, toF32Of, identity, inSteps, stepsOf}
 use Rattle.touchcal.specs.Moments.{placeOf, addPair, sharedOf, addAbout, momentsOf}
 use Rattle.touchcal.specs.Solutions.{detOf, spreads, coefsOf, deltasOf, solvedOf}
 use Rattle.touchcal.specs.Fits.{fitOf, toldFit}
+use Rattle.touchcal.specs.declared.floats.Q16Answer.the-variants as Q16Answer
 use Rattle.touchcal.specs.declared.fitting.FitAnswer.the-variants.{Answered}
 
 abbrev corner : ℕ → ℕ → ℕ → Pair
@@ -70,3 +73,29 @@ pub refusals : map (λ a. toldFit a .number)
     ≡ 4 ∷ 5 ∷ 6 ∷ 6 ∷ 6 ∷ 3 ∷ []
 unfolding fitOf solvedOf momentsOf placeOf addPair sharedOf addAbout detOf spreads coefsOf deltasOf stepsOf inSteps q16Of inReach nearestStep halfAway residOf missesOf missOf largest applyOf line lineFits in32 in16 down digit rootBy rootOf squared tenthsOf dist10Of checkOf verdictOf scaleHolds mild near stays allStay onPanel allOnPanel total mean if_then_else_ _and_ _or_ ofBits add sub mul div lt ofInt toSigned
 refusals = refl
+
+-- ---- `q16` at its edges: NaN; s = 2.0e9, and the float below it; a half of a step either way; and the largest s below a half, which is
+-- 1 step: the half is added in f32, where the sum is 1
+
+pub q16-edges : map q16Of
+    (nan
+    ∷ fin false 1_953_125 (negsuc 5)
+    ∷ fin false 15_624_999 (negsuc 8)
+    ∷ fin false 1 (negsuc 16)
+    ∷ fin true 1 (negsuc 16)
+    ∷ fin false 16_777_215 (negsuc 40)
+    ∷ [])
+    ≡ Q16Answer.Refused Huge
+    ∷ Q16Answer.Refused Huge
+    ∷ Q16Answer.Answered (record { 0 = pos 1_999_999_872 })
+    ∷ Q16Answer.Answered (record { 0 = pos 1 })
+    ∷ Q16Answer.Answered (record { 0 = negsuc 0 })
+    ∷ Q16Answer.Answered (record { 0 = pos 1 })
+    ∷ []
+unfolding q16Of inReach nearestStep halfAway if_then_else_ _and_ add sub mul lt toSigned
+q16-edges = refl
+
+-- no calibration is the identity
+pub no-calibration : toF32Of identity ≡ record { a = one32; b = zero32; c = zero32; d = zero32; e = one32; f = zero32 }
+unfolding toF32Of outOf add div ofInt
+no-calibration = refl

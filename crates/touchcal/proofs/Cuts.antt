@@ -1,20 +1,19 @@
 -- What q16 cuts is small: s moved by a half, for s between ±2.0e9, is finite and at most 2.0e9 in size, so the cut is in i64 and in i32. Assumes nothing.
 use mathlib.Core.Path.{_≡_, refl, sym, ap, subst, _∙_}
-use mathlib.Core.Bool.{Bool, true, false, cond, not, _&&_, _||_}
+use mathlib.Core.Bool.{Bool, true, false, cond, not, _||_}
 use Prim.Native.Nat.{ℕ, zero, suc, _+_, _-_, _*_, _/_, _^_, _≤_, _<_, min}
-use native.Mathlib.Nat.{le-refl, le-trans, le-of-eq, le-of-lt, lt-of-lt-of-le, lt-of-le-of-lt, zero-lt-suc, mul-one, one-mul, mul-pos, mul-comm, mul-le-mul-right, zero-mul, div-lt-iff-lt-mul}
+use native.Mathlib.Nat.{zero-lt-suc, div-lt-iff-lt-mul}
 use native.Mathlib.Omega.{arith}
 use borrow.Author.Tests.{lt-ltb, le-ltb}
-use lib.Dec.{T, ltb, leb, ltb→lt, lt→ltb, nltb→le}
-use lib.IntN.{ℤ, pos, negsuc, negℤ}
-use lib.Signed.{mag}
+use lib.Dec.{T, ltb, ltb→lt, lt→ltb, nltb→le}
+use lib.IntN.{pos}
 use lib.Ieee.{Float, nan, inf, fin, Format, binary32, prec, emax, low, up, down, odd, units, round, neg, sum, add, sub, lt, eq, le, toSigned}
 use lib.Ieee.Fits.{round-is, down-pos}
 use lib.Ieee.Order.{round-mono}
 use lib.Ieee.Positive.{num, den, positive, between, le→cross}
 use Rattle.panel.specs.Tests.{if_then_else_}
-use Rattle.touchcal.specs.Sizes.{zero32, half32, scale32, most32, least32}
-use Rattle.touchcal.specs.Floats.{halfAway, q16Of}
+use Rattle.touchcal.specs.Sizes.{half32, most32, least32}
+use Rattle.touchcal.specs.Floats.{halfAway}
 
 -- ---- the sign goes through a rounding
 abbrev pub withSign : Bool → Float → Float

@@ -5,7 +5,7 @@ use mathlib.Core.Bool.{Bool, true, false}
 use mathlib.Core.List.{List}
 use Prim.Native.Nat.{ℕ, _≤_, _<_}
 use native.Mathlib.Omega.{arith}
-use borrow.Author.Tests.{le-ltb, lt-ltb, ltb-false}
+use borrow.Author.Tests.{le-ltb, ltb-false}
 use lib.ListN.{length, take, length-take}
 use Rattle.calmap.specs.Held.{heldPairs, heldPoints}
 use Rattle.calmap.specs.declared.units.Tap.{Tap}
@@ -25,9 +25,10 @@ use Rattle.calmap.specs.declared.limits.Verdict.{Verdict}
 use Rattle.calmap.specs.declared.limits.CheckAnswer.{CheckAnswer}
 use Rattle.calmap.specs.declared.limits.CheckAnswer.the-variants as Check
 use Rattle.touchcal.specs.Solutions.{solvedOf}
-use Rattle.touchcal.specs.Fits.{fitted, fitOf, fitFirst, fitHeld}
+use Rattle.touchcal.specs.Fits.{fitted, fitOf}
+use Rattle.touchcal.specs.Held.{fitFirst, fitHeld}
 use Rattle.touchcal.specs.declared.fitting.FitAnswer.{FitAnswer}
-use Rattle.touchcal.specs.declared.fitting.FitAnswer.the-variants.{Answered, Refused}
+use Rattle.touchcal.specs.declared.fitting.FitAnswer.the-variants.{Refused}
 use Rattle.touchcal.proofs.Choices.{neither-left, neither-right}
 
 by-test : {X : Type 0} (b : Bool) → (b ≡ true → X) → (b ≡ false → X) → X

@@ -1,12 +1,12 @@
 -- `fit` case by case: which refusal comes where, and that the residuals of a fit are those of `resid` and its verdict that of `check`.
 -- Assumes nothing.
-use mathlib.Core.Path.{_≡_, refl, sym, ap, subst, _∙_}
-use mathlib.Core.Bool.{Bool, true, false, true≢false}
+use mathlib.Core.Path.{_≡_, refl, ap, subst}
+use mathlib.Core.Bool.{Bool, true, false, not}
 use mathlib.Core.List.{List}
 use Prim.Native.Nat.{ℕ}
 use native.Mathlib.Omega.{arith}
 use lib.ListN.{length}
-use Rattle.panel.specs.Tests.{if_then_else_, _and_, _or_, _<?_}
+use Rattle.panel.specs.Tests.{if_then_else_, _or_, _<?_}
 use Rattle.panel.specs.Centroids.{mean}
 use Rattle.panel.specs.Points.{allOnPanel}
 use Rattle.panel.specs.Refusals.{Told}
@@ -16,11 +16,10 @@ use Rattle.panel.specs.declared.refusals.Refusal.the-variants as Refusal
 use Rattle.panel.proofs.Follow.{follow, if-of}
 use Rattle.calmap.specs.Sizes.{longest}
 use Rattle.calmap.specs.Distances.{tenths}
-use Rattle.calmap.specs.Resids.{residOf, Misses, known, wide, missesOf, largest, spread, spreadOf}
-use Rattle.calmap.specs.Checks.{checkOf, verdictOf, Judged, none, judged}
+use Rattle.calmap.specs.Resids.{residOf, Misses, known, wide, missesOf, largest, spreadOf}
+use Rattle.calmap.specs.Checks.{checkOf, verdictOf, none, judged}
 use Rattle.calmap.specs.declared.units.Cal.{Cal}
 use Rattle.calmap.specs.declared.units.Pair.{Pair}
-use Rattle.calmap.specs.declared.residuals.Spread.{Spread}
 use Rattle.calmap.specs.declared.residuals.ResidAnswer.{ResidAnswer}
 use Rattle.calmap.specs.declared.residuals.ResidAnswer.the-variants as Resid
 use Rattle.calmap.specs.declared.units.Tenths.{Tenths}
@@ -49,6 +48,23 @@ deltas ps = deltasOf (coefsOf (momentsOf ps))
 pub solved-are : (ps : List Pair) → solvedOf ps ≡ (if length ps <? fewest then Not Few else if spreads (momentsOf ps .sums) then (if allReach (deltas ps) then Is (nearestCal (deltas ps)) else Not Steep) else Not Line)
 unfolding solvedOf
 solved-are ps = rw (steps-are (deltas ps), if-of ofSteps (allReach (deltas ps)) _ _)
+
+-- the three in one test
+abbrev pub unfit : List Pair → Bool
+unfit ps = length ps <? fewest or not (spreads (momentsOf ps .sums)) or not (allReach (deltas ps))
+
+pub unfit-exactly : (ps : List Pair) (ts : List Point)
+    → fitted (solvedOf ps) ps ts ≡ (if unfit ps then Refused Refusal.NoFit else weighed (nearestCal (deltas ps)) (residOf (nearestCal (deltas ps)) ps) (residOf identity ps) (checkOf (nearestCal (deltas ps)) ts))
+unfolding if_then_else_ _or_
+unfit-exactly ps ts = rw (solved-are ps) (go (length ps <? fewest) (spreads (momentsOf ps .sums)) (allReach (deltas ps)) (nearestCal (deltas ps)))
+  where
+    go : (few apart near : Bool) (c : Cal)
+        → fitted (if few then Not Few else if apart then (if near then Is c else Not Steep) else Not Line) ps ts
+        ≡ (if few or not apart or not near then Refused Refusal.NoFit else weighed c (residOf c ps) (residOf identity ps) (checkOf c ts))
+    go true apart near c = refl
+    go false true true c = refl
+    go false true false c = refl
+    go false false near c = refl
 
 -- ---- no list too long, and all targets on the panel
 

@@ -1,6 +1,6 @@
 -- Six coefficients at once: HUGE exactly where one of them is out of reach. Assumes nothing.
-use mathlib.Core.Path.{_≡_, refl}
-use mathlib.Core.Bool.{Bool, true, false}
+use mathlib.Core.Path.{_≡_}
+use mathlib.Core.Bool.{Bool}
 use lib.Ieee.{Float}
 use Rattle.panel.specs.Tests.{if_then_else_, _and_}
 use Rattle.panel.specs.declared.refusals.Refusal.the-variants.{Huge}

@@ -3,9 +3,8 @@
 -- "4 LONG: over 64 pairs in use, or over 64 targets; 5 TARGET: a target off the panel; 6 NOFIT: Rust `fit` answers `None`;
 -- 3 WIDE: a 32-bit value or sum named below does not fit". Order: "LONG, TARGET, NOFIT, WIDE in `fit`". "Verdict: Scale,
 -- Shift, then Resid if max > 250." Mean, max and before are those of `resid`, Scale and Shift those of `check`.
-use Prim.Native.Nat.{ℕ}
 use mathlib.Core.List.{List}
-use lib.ListN.{length, take}
+use lib.ListN.{length}
 use Rattle.panel.specs.Tests.{if_then_else_, _or_, _<?_}
 use Rattle.panel.specs.Points.{allOnPanel}
 use Rattle.panel.specs.Refusals.{Told, answered, refused}
@@ -18,8 +17,6 @@ use Rattle.calmap.specs.Checks.{checkOf, Judged, none, judged}
 use Rattle.calmap.specs.declared.units.Cal.{Cal}
 use Rattle.calmap.specs.declared.units.Pair.{Pair}
 use Rattle.calmap.specs.declared.units.Tenths.{Tenths}
-use Rattle.calmap.specs.declared.held.Pairs.{Pairs}
-use Rattle.calmap.specs.declared.held.Points.{Points}
 use Rattle.calmap.specs.declared.residuals.Spread.{Spread}
 use Rattle.calmap.specs.declared.residuals.ResidAnswer.{ResidAnswer}
 use Rattle.calmap.specs.declared.residuals.ResidAnswer.the-variants as Resid
@@ -63,18 +60,6 @@ fitOf ps ts =
     if longest <? length ps or longest <? length ts then Refused Long
     else if allOnPanel ts then fitted (solvedOf ps) ps ts
     else Refused Target
-
--- the first n pairs and the first m targets, of arrays that hold 64
-unfoldable pub fitFirst : ℕ → List Pair → ℕ → List Point → FitAnswer
-fitFirst n ps m ts =
-    if longest <? n or longest <? m then Refused Long
-    else fitOf (take n ps) (take m ts)
-
--- what is held of lent lists, as calmap holds them
-unfoldable pub fitHeld : Pairs → Points → FitAnswer
-fitHeld a t =
-    if a .long or t .long then Refused Long
-    else fitFirst (a .n) (a .list) (t .n) (t .list)
 
 -- what a fit tells; zeros and no verdict for a refusal
 pub record Tells : Type 0 where

@@ -1,4 +1,5 @@
--- What a reader must believe about the float half of the calibration, in document 01's order.
+-- What a reader must believe about the float half of the calibration, each after what it is made of. `Held` is the code's
+-- own and holds no rule.
 pub mod Binary32
 pub mod Sizes
 pub mod Floats
@@ -6,3 +7,4 @@ pub mod Scpi
 pub mod Moments
 pub mod Solutions
 pub mod Fits
+pub mod Held

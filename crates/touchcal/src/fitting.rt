@@ -1,7 +1,8 @@
 // The fit of a calibration to taps: the solution of the least squares, how far the taps are from it
 // and how far they were without it, and the verdict.
 ghost use mathlib.Core.Path.{_≡_};
-ghost use Rattle.touchcal.specs.Fits.{judgedBy, fitWith, weighed, fitFirst, fitHeld};
+ghost use Rattle.touchcal.specs.Fits.{judgedBy, fitWith, weighed};
+ghost use Rattle.touchcal.specs.Held.{fitFirst, fitHeld};
 use crate::floats;
 use crate::solving;
 use crate::solving::Solved;

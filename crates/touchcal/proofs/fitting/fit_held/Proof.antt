@@ -1,5 +1,5 @@
 use Rattle.panel.proofs.Follow.{follow}
-use Rattle.touchcal.specs.Fits.{fitHeld}
+use Rattle.touchcal.specs.Held.{fitHeld}
 use borrow.Author.Needs.{needs}
 use Rattle.touchcal.proofs.fitting.fit_held.Statement.{statement}
 use Rattle.touchcal.proofs.fitting.fit_held.Tie as tie

@@ -1,4 +1,4 @@
-use mathlib.Core.Path.{_≡_, sym, _∙_}
+use mathlib.Core.Path.{sym, _∙_}
 use native.Mathlib.Omega.{arith}
 use Rattle.touchcal.specs.Floats.{identity}
 use Rattle.touchcal.proofs.Firsts.{fit-long, fit-refused, fit-goes-on, resid-first, check-first}

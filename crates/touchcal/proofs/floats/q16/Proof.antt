@@ -1,7 +1,6 @@
 -- What is cut is small (proofs/Cuts.antt), so that the cut is the same at 64 bits and at 32.
-use mathlib.Core.Path.{_≡_, sym, ap, subst, _∙_}
+use mathlib.Core.Path.{_≡_, sym, subst, _∙_}
 use lib.Dec.{T}
-use lib.IntN.{ℤ}
 use lib.Ieee.{ofBits, neg}
 use lib.Ieee.Casts.{toSigned-in}
 use mir.Syntax.{w32, w64}

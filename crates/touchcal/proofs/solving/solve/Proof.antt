@@ -1,5 +1,4 @@
 use Rattle.panel.proofs.Follow.{follow}
-use mathlib.Core.Path.{_≡_}
 use Prim.Native.Nat.{_<_, _≤_}
 use lib.ListN.{length, take}
 use native.Mathlib.Omega.{arith}
