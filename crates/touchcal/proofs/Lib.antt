@@ -3,6 +3,7 @@ pub mod RoundTrip
 mod Cuts
 mod Fractions
 mod Folds
+pub mod Before
 mod Choices
 mod Firsts
 mod Reach

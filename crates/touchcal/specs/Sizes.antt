@@ -30,6 +30,10 @@ least32 = fin true 1_953_125 (pos 10)
 abbrev pub thin32 : Float
 thin32 = ofBits binary32 0x3A83126F
 
+-- the Rust's `sxx < 1.0 || syy < 1.0`
+abbrev pub leastSum32 : Float
+leastSum32 = fin false 1 (pos 0)
+
 -- an affine map takes three pairs
 abbrev pub fewest : ℕ
 fewest = 3

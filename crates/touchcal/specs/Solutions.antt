@@ -9,7 +9,7 @@ use lib.ListN.{length}
 use Rattle.panel.specs.Tests.{if_then_else_, _and_, _<?_}
 use Rattle.calmap.specs.declared.units.Pair.{Pair}
 use Rattle.touchcal.specs.Binary32.{_⊖_, _⊗_, _⊘_, _⊲_}
-use Rattle.touchcal.specs.Sizes.{one32, thin32, fewest}
+use Rattle.touchcal.specs.Sizes.{one32, thin32, leastSum32, fewest}
 use Rattle.touchcal.specs.Floats.{stepsOf}
 use Rattle.touchcal.specs.Moments.{momentsOf}
 use Rattle.touchcal.specs.declared.floats.Coefs.{Coefs}
@@ -26,7 +26,7 @@ detOf s = s .sxx ⊗ s .syy ⊖ s .sxy ⊗ s .sxy
 
 -- the raw taps are not on one line, and not all in one place along x or along y
 unfoldable pub spreads : Sums → Bool
-spreads s = (thin32 ⊗ s .sxx ⊗ s .syy ⊲ detOf s) and not (s .sxx ⊲ one32) and not (s .syy ⊲ one32)
+spreads s = (thin32 ⊗ s .sxx ⊗ s .syy ⊲ detOf s) and not (s .sxx ⊲ leastSum32) and not (s .syy ⊲ leastSum32)
 
 -- x' = a x + b y + c, y' = d x + e y + f
 unfoldable pub coefsOf : Moments → Coefs

@@ -9,6 +9,9 @@ use panel::Refusal;
 // Steps to the pixel, and to the factor 1.
 const ONE: f32 = 65536.0;
 
+// Steps from here on, either way, are refused, a little before the end of i32.
+const TOO_MANY: f32 = 2.0e9;
+
 // What q16 answers.
 pub enum Q16Answer {
     Answered(Q16),
@@ -41,14 +44,14 @@ fn half_away(s: f32) -> f32
     s + 0.5
 }
 
-// v in steps, to the nearest. NaN and what is beyond the limits are refused, so that the cut is
-// always within i32.
+// v in steps, to the nearest. NaN and what is too large are refused, so that the cut is always within
+// i32: std's truncating cast does it at 64 bits, where its range is proved, and loses nothing after.
 pub fn q16(v: f32) -> Q16Answer
     ensures { λ r. ⌜ r ≡ q16Of v ⌝ }
 {
     let s = v * ONE;
-    if s > -2.0e9 {
-        if s < 2.0e9 {
+    if s > -TOO_MANY {
+        if s < TOO_MANY {
             let t = half_away(s);
             return Q16Answer::Answered(Q16(std::num::truncating_f32_to_i64(t) as i32));
         }

@@ -17,6 +17,12 @@ use calmap::Pair;
 // The fewest pairs that have an affine map.
 const FEWEST: usize = 3;
 
+// Raw taps whose determinant is at most this part of the two spreads' product are on one line.
+const THIN: f32 = 1e-3;
+
+// Raw taps whose squares along x or along y add up to less than this are in one place there.
+const LEAST: f32 = 1.0;
+
 // Why pairs have no fit.
 pub enum Fault {
     // Fewer than three pairs.
@@ -43,12 +49,12 @@ fn det(s: Sums) -> f32
 fn is_spread(s: Sums) -> bool
     ensures { λ r. ⌜ r ≡ spreads s ⌝ }
 {
-    let thin = 1e-3 * s.sxx * s.syy;
+    let thin = THIN * s.sxx * s.syy;
     if det(s) > thin {
-        if s.sxx < 1.0 {
+        if s.sxx < LEAST {
             return false;
         }
-        if s.syy < 1.0 {
+        if s.syy < LEAST {
             return false;
         }
         return true;
