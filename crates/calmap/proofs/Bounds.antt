@@ -1,32 +1,31 @@
 -- How large the answers are: where a point lands that `apply16` answers, and how far a tap then is from its target. So
 -- 64 distances have a sum in u32, and no sum of `resid` is WIDE. Assumes nothing.
-use mathlib.Core.Path.{_≡_, refl, sym, ap, subst, _∙_}
+use Prim.Native.Nat.{ℕ, _*_, _/_, _^_, _≤_, _<_}
+use mathlib.Core.Path.{_≡_, refl, _∙_}
 use mathlib.Core.Bool.{Bool, true, false}
-use Prim.Native.Nat.{ℕ, suc, _+_, _*_, _/_, _^_, _≤_, _<_}
 use native.Mathlib.Nat.{mul-le-mul}
 use native.Mathlib.Omega.{arith}
-use borrow.Author.Tests.{ltb-true}
-use lib.IntN.{ℤ, pos, natAbs, _-ℤ_, _*ℤ_}
+use lib.IntN.{ℤ, pos, _-ℤ_, _*ℤ_}
 use lib.Signed.{mag, natAbs-le}
+use borrow.Author.Tests.{ltb-true}
+use Rattle.panel.proofs.Follow.{if-true, and-true}
+use Rattle.panel.proofs.Laws.{and-left, and-right}
 use Rattle.panel.specs.Tests.{if_then_else_}
 use Rattle.panel.specs.declared.refusals.Refusal.the-variants as Refusal
-use Rattle.panel.proofs.Laws.{and-left, and-right}
+use Rattle.calmap.specs.Checked.{farthest}
+use Rattle.calmap.specs.Distances.{squared, tenthsOf, tenths, dist10Of, toldDist10}
+use Rattle.calmap.specs.Maps.{line, lineFits, applyOf}
+use Rattle.calmap.specs.Resids.{inSixteenths}
 use Rattle.calmap.specs.Sizes.{end32, tenthsIn, sixteenthsIn, twelve}
 use Rattle.calmap.specs.Wide.{in32, down}
-use Rattle.calmap.specs.Maps.{line, lineFits, sixteenths, spot, applyOf}
-use Rattle.calmap.specs.Roots.{rootOf}
-use Rattle.calmap.specs.Distances.{squared, tenthsOf, tenths, dist10Of, toldDist10}
-use Rattle.calmap.specs.Resids.{inSixteenths}
-use Rattle.calmap.specs.Checked.{farthest}
+use Rattle.calmap.specs.declared.gaps.Dist10Answer.the-variants as Dist10
+use Rattle.calmap.specs.declared.mapping.ApplyAnswer.the-variants as Apply
+use Rattle.calmap.specs.declared.mapping.Spot.{Spot}
 use Rattle.calmap.specs.declared.units.Cal.{Cal}
 use Rattle.calmap.specs.declared.units.Q16.{Q16}
-use Rattle.calmap.specs.declared.units.Sixteenths.{Sixteenths}
-use Rattle.calmap.specs.declared.mapping.Spot.{Spot}
-use Rattle.calmap.specs.declared.mapping.ApplyAnswer.the-variants as Apply
-use Rattle.calmap.specs.declared.gaps.Dist10Answer.the-variants as Dist10
-use Rattle.calmap.proofs.Signed.{mag-sub, mag-mul}
 use Rattle.calmap.proofs.Floors.{down-size}
 use Rattle.calmap.proofs.Rooted.{root-at-most}
+use Rattle.calmap.proofs.Signed.{mag-sub, mag-mul, in32-yes}
 
 -- Where a point lands: 19 bits each way.
 
@@ -72,6 +71,16 @@ told-at-most false n k h = omega arith
 module _ (a : ℤ) (t : ℤ) (ha : mag a < 2 ^ 19) (ht : mag t < 2 ^ 15) where
   pub apart-size : mag (a -ℤ inSixteenths t .0) < 1081346
   apart-size = omega (arith, mag-sub a (t *ℤ pos sixteenthsIn), mag-mul t (pos sixteenthsIn))
+
+  -- so a landed tap's difference from its target, and a target's shift, never leave i32
+  pub apart-in32 : in32 (a -ℤ inSixteenths t .0) ≡ true
+  apart-in32 = let l = apart-size in in32-yes (a -ℤ inSixteenths t .0) (omega arith)
+
+-- and the WIDE of `resid` is always that of `apply16`
+pub miss-answered : (s : Spot) (x y : ℤ) → Lands s → mag x < 2 ^ 15 → mag y < 2 ^ 15
+    → dist10Of (s .0) (s .1) (inSixteenths x) (inSixteenths y) ≡ Dist10.Answered (tenths (tenthsOf (squared (s .0 .0 -ℤ inSixteenths x .0) (s .1 .0 -ℤ inSixteenths y .0))))
+unfolding dist10Of
+miss-answered s x y h hx hy = if-true _ _ _ (and-true _ _ (apart-in32 (s .0 .0) x (h .x) hx) ∙ apart-in32 (s .1 .0) y (h .y) hy)
 
 pub miss-at-most : (s : Spot) (x y : ℤ) → Lands s → mag x < 2 ^ 15 → mag y < 2 ^ 15 → toldDist10 (dist10Of (s .0) (s .1) (inSixteenths x) (inSixteenths y)) .value .0 ≤ farthest
 unfolding dist10Of

@@ -1,28 +1,28 @@
 -- Sums that stop where one of them is not in i32: `narrowOf` and `plusOf` step by step make the rules of specs/.
 -- Assumes nothing.
-use mathlib.Core.Path.{_≡_, refl, sym, ap, _∙_}
+use Prim.Native.Nat.{ℕ, _-_, _≤_, _<_}
+use mathlib.Core.Path.{_≡_, refl, sym, _∙_}
 use mathlib.Core.Bool.{Bool, true, false}
 use native.Mathlib.Omega.{arith}
-use Prim.Native.Nat.{ℕ, _-_, _≤_, _<_}
-use borrow.Author.Tests.{lt-ltb, le-ltb}
 use lib.Signed.{mag}
 use lib.IntN.{ℤ, pos, _+ℤ_, _*ℤ_}
-use Rattle.panel.specs.Tests.{if_then_else_, _and_}
+use borrow.Author.Tests.{lt-ltb, le-ltb}
 use Rattle.panel.proofs.Follow.{if-true, if-false, and-true}
 use Rattle.panel.specs.Sizes.{width, height}
+use Rattle.panel.specs.Tests.{if_then_else_, _and_}
 use Rattle.panel.specs.declared.points.Point.{Point}
 use Rattle.panel.specs.declared.refusals.Refusal.the-variants as Refusal
-use Rattle.calmap.specs.Sizes.{end32, one, half, twelve}
-use Rattle.calmap.specs.Wide.{in32, in16, down}
+use Rattle.calmap.specs.Checked.{narrowOf, plusOf, lineOf, nudgeOf, spotOf, placedOf}
 use Rattle.calmap.specs.Maps.{line, lineFits, spot, applyOf}
 use Rattle.calmap.specs.Screening.{nudge, nudgeFits, moved, screenOf}
-use Rattle.calmap.specs.Checked.{narrowOf, plusOf, lineOf, nudgeOf, spotOf, placedOf}
-use Rattle.calmap.specs.declared.units.Cal.{Cal}
-use Rattle.calmap.specs.declared.units.Q16.{Q16}
-use Rattle.calmap.specs.declared.mapping.ApplyAnswer.the-variants as Apply
-use Rattle.calmap.specs.declared.screens.ScreenAnswer.the-variants as Screen
+use Rattle.calmap.specs.Sizes.{end32, one, half, twelve}
+use Rattle.calmap.specs.Wide.{in32, in16, down}
 use Rattle.calmap.specs.declared.checked.Narrow.{Narrow}
 use Rattle.calmap.specs.declared.checked.Narrow.the-variants.{In, Wide}
+use Rattle.calmap.specs.declared.mapping.ApplyAnswer.the-variants as Apply
+use Rattle.calmap.specs.declared.screens.ScreenAnswer.the-variants as Screen
+use Rattle.calmap.specs.declared.units.Cal.{Cal}
+use Rattle.calmap.specs.declared.units.Q16.{Q16}
 
 -- z, if all that came before it and z itself are in i32
 abbrev held : Bool → ℤ → Narrow

@@ -1,23 +1,23 @@
 -- The first n of an array, n within what it holds: `check` and `resid` of them are not LONG. Assumes nothing.
-use mathlib.Core.Path.{_≡_, sym, _∙_}
+use Prim.Native.Nat.{ℕ, _≤_, _<_}
+use mathlib.Core.Path.{_≡_, _∙_}
 use mathlib.Core.Bool.{false}
 use mathlib.Core.List.{List}
-use Prim.Native.Nat.{ℕ, _≤_, _<_}
 use native.Mathlib.Omega.{arith}
-use borrow.Author.Tests.{le-ltb, lt-ltb}
 use lib.ListN.{length, take, length-take}
-use Rattle.panel.specs.Tests.{if_then_else_, _<?_}
+use borrow.Author.Tests.{le-ltb, lt-ltb}
+use Rattle.panel.proofs.Follow.{if-true, if-false}
 use Rattle.panel.specs.Points.{allOnPanel}
+use Rattle.panel.specs.Tests.{if_then_else_, _<?_}
 use Rattle.panel.specs.declared.points.Point.{Point}
 use Rattle.panel.specs.declared.refusals.Refusal.the-variants as Refusal
-use Rattle.panel.proofs.Follow.{if-true, if-false}
-use Rattle.calmap.specs.Sizes.{longest}
-use Rattle.calmap.specs.Resids.{missesOf, spreadOf, residOf, residFirst}
 use Rattle.calmap.specs.Checks.{verdictOf, checkOf, checkFirst}
+use Rattle.calmap.specs.Resids.{missesOf, spreadOf, residOf, residFirst}
+use Rattle.calmap.specs.Sizes.{longest}
+use Rattle.calmap.specs.declared.limits.CheckAnswer.the-variants as Check
+use Rattle.calmap.specs.declared.residuals.ResidAnswer.the-variants as Resid
 use Rattle.calmap.specs.declared.units.Cal.{Cal}
 use Rattle.calmap.specs.declared.units.Pair.{Pair}
-use Rattle.calmap.specs.declared.residuals.ResidAnswer.the-variants as Resid
-use Rattle.calmap.specs.declared.limits.CheckAnswer.the-variants as Check
 
 not-long : {A : Type 0} (n : ℕ) (xs : List A) → n ≤ longest → (longest <? length (take n xs)) ≡ false
 not-long n xs h = le-ltb longest (length (take n xs)) (rw length-take (omega arith))
@@ -27,6 +27,10 @@ module _ (c : Cal) (n : ℕ) (ps : List Pair) where
   unfolding residFirst
   resid-long h = if-true _ _ _ (lt-ltb _ _ h)
 
+  pub resid-taken : n ≤ longest → residFirst c n ps ≡ residOf c (take n ps)
+  unfolding residFirst
+  resid-taken h = if-false _ _ _ (le-ltb _ _ h)
+
   pub resid-first : n ≤ longest → residFirst c n ps ≡ spreadOf (missesOf c (take n ps))
   unfolding residFirst residOf
   resid-first h = if-false _ _ _ (le-ltb _ _ h) ∙ if-false _ _ _ (not-long n ps h)
@@ -35,6 +39,10 @@ module _ (c : Cal) (n : ℕ) (ps : List Point) where
   pub check-long : longest < n → checkFirst c n ps ≡ Check.Refused Refusal.Long
   unfolding checkFirst
   check-long h = if-true _ _ _ (lt-ltb _ _ h)
+
+  pub check-taken : n ≤ longest → checkFirst c n ps ≡ checkOf c (take n ps)
+  unfolding checkFirst
+  check-taken h = if-false _ _ _ (le-ltb _ _ h)
 
   pub check-first : n ≤ longest → checkFirst c n ps ≡ if_then_else_ (allOnPanel (take n ps)) (Check.Answered (verdictOf c (take n ps))) (Check.Refused Refusal.Target)
   unfolding checkFirst checkOf

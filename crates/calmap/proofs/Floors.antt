@@ -1,12 +1,11 @@
 -- The signed shift is division rounded down: with q for `down places z` and m for 2 ^ places, m·q ≤ z < m·(q + 1). How
 -- large what is left is; and a number held to the panel. Assumes nothing.
+use Prim.Native.Nat.{ℕ, zero, suc, _+_, _*_, _/_, _^_, _≤_, _<_}
 use mathlib.Core.Path.{_≡_, refl, sym, subst, ap, _∙_}
 use mathlib.Core.Bool.{true, false, true≢false}
-use Prim.Native.Nat.{ℕ, zero, suc, _+_, _*_, _/_, _^_, _≤_, _<_}
 use native.Mathlib.Nat.{div-add-mod', mod-lt, mul-comm, suc-mul, not-suc-le-zero, div-mul-le-self}
 use native.Mathlib.Numerals.{add-one}
 use native.Mathlib.Omega.{arith}
-use borrow.Author.Tests.{ltb-true}
 use lib.Dec.{T, lt→ltb, le→leb}
 use lib.IntN.{ℤ, pos, negsuc, negℤ, natAbs, _*ℤ_, _+ℤ_, +ℤ-one}
 use lib.Pow.{pow-pos}
@@ -14,9 +13,10 @@ use lib.Signed.{mag, shrZ, mag-shr, _≤ℤ_, _<ℤ_, leZ, ltZ, nonNeg}
 use mir.Syntax.{w32}
 use mir.Val.{toZ, ofZ, Fits, SFits}
 use mir.ValLaws.{toZ-ofZ, sfits-le}
+use borrow.Author.Tests.{ltb-true}
+use Rattle.calmap.specs.Screening.{clamp}
 use Rattle.calmap.specs.Sizes.{end32, sixteen}
 use Rattle.calmap.specs.Wide.{floorDiv, down}
-use Rattle.calmap.specs.Screening.{clamp}
 use Rattle.calmap.proofs.Signed.{mag-add}
 
 down-shr : (z : ℤ) (places : ℕ) → shrZ z (2 ^ places) ≡ down places z

@@ -1,26 +1,24 @@
 -- What is held of a list: one more at the end goes where it belongs, and what is computed from what is held is what
 -- document 01 says of the lists. Assumes nothing.
-use mathlib.Core.Path.{_≡_, refl, sym, ap, _∙_}
-use mathlib.Core.Bool.{Bool, true, false}
-use mathlib.Core.List.{List, [], _∷_, _++_}
 use Prim.Native.Nat.{ℕ, zero, suc, _+_, _≤_, _<_, min}
+use mathlib.Core.Path.{_≡_, refl, sym, ap, _∙_}
+use mathlib.Core.Bool.{true, false}
+use mathlib.Core.List.{List, [], _∷_, _++_}
 use native.Mathlib.Nat.{not-suc-le-zero, le-of-suc-le-suc, lt-of-not-le, le-refl}
 use native.Mathlib.Decide.{decLe}
-use native.Mathlib.Numerals.{add-one}
 use native.Mathlib.Omega.{arith}
+use lib.ListN.{length, take, getD, set, length-append}
 use borrow.Author.Tests.{lt-ltb, le-ltb}
-use lib.ListN.{length, take, getD, set, length-append, length-take}
-use Rattle.panel.specs.Tests.{if_then_else_, _and_, _<?_}
-use Rattle.panel.specs.declared.points.Point.{Point}
-use Rattle.panel.specs.declared.refusals.Refusal.the-variants as Refusal
 use Rattle.panel.proofs.Follow.{if-true, if-false, and-true, and-false}
-use Rattle.calmap.specs.Sizes.{longest}
-use Rattle.calmap.specs.Resids.{pairsOf, residOf, residFirst}
+use Rattle.panel.specs.Tests.{_and_, _<?_}
+use Rattle.panel.specs.declared.points.Point.{Point}
 use Rattle.calmap.specs.Checks.{checkOf, checkFirst}
 use Rattle.calmap.specs.Held.{filled, tap0, point0, heldTaps, heldPoints, heldPairs, pairUp, putTap, putPoint, residHeld, checkHeld}
+use Rattle.calmap.specs.Resids.{pairsOf, residOf, residFirst}
+use Rattle.calmap.specs.Sizes.{longest}
 use Rattle.calmap.specs.declared.units.Cal.{Cal}
-use Rattle.calmap.specs.declared.units.Tap.{Tap}
 use Rattle.calmap.specs.declared.units.Pair.{Pair}
+use Rattle.calmap.specs.declared.units.Tap.{Tap}
 
 -- The array.
 

@@ -2,8 +2,8 @@
 use mathlib.Core.Path.{_≡_, refl}
 use mathlib.Core.Bool.{true}
 use mathlib.Core.List.{List, [], _∷_}
-use Rattle.panel.specs.Tests.{_and_}
 use Rattle.panel.specs.Points.{onPanel, allOnPanel}
+use Rattle.panel.specs.Tests.{_and_}
 use Rattle.panel.specs.declared.points.Point.{Point}
 use Rattle.calmap.specs.Checks.{stays, allStay}
 use Rattle.calmap.specs.declared.units.Cal.{Cal}

@@ -1,24 +1,24 @@
 -- The laws that callers cite in place of the definitions' text: the root is the largest whose square is at most v; the
 -- shift rounds toward minus infinity; what `screen` adds up is always in i32; where a point lands, and how far tenths
 -- reach. Assumes nothing.
+use Prim.Native.Nat.{ℕ, _+_, _*_, _/_, _^_, _≤_, _<_}
 use mathlib.Core.Path.{_≡_}
 use mathlib.Core.Bool.{true}
-use Prim.Native.Nat.{ℕ, _+_, _*_, _/_, _^_, _≤_, _<_}
-use borrow.Author.Tests.{ltb-true}
 use lib.IntN.{ℤ, pos, _+ℤ_, _*ℤ_}
 use lib.Signed.{_≤ℤ_, _<ℤ_}
+use borrow.Author.Tests.{ltb-true}
+use Rattle.calmap.specs.Distances.{tenthsOf}
+use Rattle.calmap.specs.Maps.{applyOf}
+use Rattle.calmap.specs.Roots.{rootOf}
 use Rattle.calmap.specs.Sizes.{sixteen, tenthsIn, sixteenthsIn}
 use Rattle.calmap.specs.Wide.{in32, down}
-use Rattle.calmap.specs.Maps.{applyOf}
-use Rattle.calmap.specs.Roots.{IsRoot, rootOf}
-use Rattle.calmap.specs.Distances.{tenthsOf}
-use Rattle.calmap.specs.declared.units.Cal.{Cal}
-use Rattle.calmap.specs.declared.mapping.Spot.{Spot}
 use Rattle.calmap.specs.declared.mapping.ApplyAnswer.the-variants.{Answered}
-use Rattle.calmap.proofs.Signed.{in32-yes}
+use Rattle.calmap.specs.declared.mapping.Spot.{Spot}
+use Rattle.calmap.specs.declared.units.Cal.{Cal}
+use Rattle.calmap.proofs.Bounds as Bounds
 use Rattle.calmap.proofs.Floors as Floors
 use Rattle.calmap.proofs.Rooted as Rooted
-use Rattle.calmap.proofs.Bounds as Bounds
+use Rattle.calmap.proofs.Signed.{in32-yes}
 
 -- The root.
 

@@ -13,3 +13,4 @@ mod Newton
 mod Walking
 mod Tallying
 mod Judging
+mod Cases

@@ -1,7 +1,7 @@
 -- Newton's step for the root of v from a guess x above 0: the next guess, (x + v / x) / 2, is never below the root, and
 -- a guess that the next one does not go below is the root. Assumes nothing.
-use mathlib.Core.Path.{_≡_, refl, subst}
 use Prim.Native.Nat.{ℕ, zero, suc, _+_, _*_, _/_, _^_, _≤_, _<_}
+use mathlib.Core.Path.{_≡_, refl, subst}
 use native.Mathlib.Nat.{le-trans, le-of-eq, le-of-lt, lt-suc-self, zero-lt-suc, not-suc-le-zero, lt-of-not-le, le-dest, le-intro, add-comm, add-assoc, add-left-comm, mul-comm, mul-add, add-mul, suc-mul, mul-le-mul-left, mul-le-mul-right, div-lt-iff-lt-mul, le-div-iff-mul-le, div-mul-le-self, mul-one}
 use native.Mathlib.Decide.{decLe}
 use native.Mathlib.Omega.{arith}

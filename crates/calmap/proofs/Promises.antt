@@ -1,31 +1,30 @@
 -- The public calls in document 01's numbers: what each tells for every input. That a contract of the form r ≡ definition
 -- leaves no second answer is `one-answer` of panel's proofs/Promises.antt. Assumes nothing.
-use mathlib.Core.Path.{_≡_, refl, sym, ap, _∙_}
-use mathlib.Core.Bool.{Bool, true, false}
-use mathlib.Core.List.{List, [], _∷_}
 use Prim.Native.Nat.{ℕ, _-_, _^_, _<_}
+use mathlib.Core.Path.{_≡_, refl, ap, _∙_}
+use mathlib.Core.List.{List}
 use lib.IntN.{ℤ, pos, _-ℤ_}
-use lib.ListN.{length}
-use Rattle.panel.specs.Tests.{if_then_else_, _and_, _<?_}
-use Rattle.panel.specs.Sizes.{width, height}
-use Rattle.panel.specs.Refusals.{Told}
+use lib.ListN.{length, take}
+use Rattle.panel.proofs.Follow.{if-of}
 use Rattle.panel.specs.Centroids.{mean}
 use Rattle.panel.specs.Points.{allOnPanel}
+use Rattle.panel.specs.Refusals.{Told}
+use Rattle.panel.specs.Sizes.{width, height}
+use Rattle.panel.specs.Tests.{if_then_else_, _and_, _<?_}
 use Rattle.panel.specs.declared.points.Point.{Point}
-use Rattle.panel.proofs.Follow.{if-of}
+use Rattle.calmap.specs.Checks.{none, judged, scaleHolds, allStay, verdictOf, checkOf, checkFirst, toldCheck}
+use Rattle.calmap.specs.Distances.{squared, tenths, tenthsOf, dist10Of, toldDist10}
+use Rattle.calmap.specs.Maps.{line, lineFits, spot, applyOf, toldApply}
+use Rattle.calmap.specs.Resids.{Misses, known, wide, missesOf, largest, spread, spreadOf, residOf, residFirst, toldResid}
+use Rattle.calmap.specs.Roots.{IsRoot, rootOf}
+use Rattle.calmap.specs.Screening.{nudge, nudgeFits, moved, screenOf, toldScreen}
 use Rattle.calmap.specs.Sizes.{longest, twelve}
 use Rattle.calmap.specs.Wide.{in32, in16, down}
-use Rattle.calmap.specs.Maps.{line, lineFits, spot, applyOf, toldApply}
-use Rattle.calmap.specs.Screening.{nudge, nudgeFits, moved, screenOf, toldScreen}
-use Rattle.calmap.specs.Roots.{IsRoot, rootOf}
-use Rattle.calmap.specs.Distances.{squared, tenths, tenthsOf, dist10Of, toldDist10}
-use Rattle.calmap.specs.Resids.{Misses, known, wide, missesOf, largest, spread, spreadOf, residOf, toldResid}
-use Rattle.calmap.specs.Checks.{Judged, none, judged, scaleHolds, allStay, verdictOf, checkOf, toldCheck}
+use Rattle.calmap.specs.declared.limits.Verdict.the-variants.{Pass, Scale, Shift}
+use Rattle.calmap.specs.declared.residuals.Spread.{Spread}
 use Rattle.calmap.specs.declared.units.Cal.{Cal}
 use Rattle.calmap.specs.declared.units.Pair.{Pair}
 use Rattle.calmap.specs.declared.units.Sixteenths.{Sixteenths}
-use Rattle.calmap.specs.declared.residuals.Spread.{Spread}
-use Rattle.calmap.specs.declared.limits.Verdict.the-variants.{Pass, Scale, Shift}
 use Rattle.calmap.proofs.Rooted.{root-is}
 
 abbrev tells : {A : Type 0} → ℕ → A → Told A
@@ -70,6 +69,11 @@ pub resid-tells : (c : Cal) (ps : List Pair) → toldResid (residOf c ps) ≡ if
 unfolding residOf
 resid-tells c ps = if-of toldResid _ _ _ ∙ ap (if_then_else_ (longest <? length ps) (tells 4 (spread 0 0))) (spread-told (missesOf c ps))
 
+-- The same over the first n of an array of 64.
+pub resid-of-tells : (c : Cal) (n : ℕ) (ps : List Pair) → toldResid (residFirst c n ps) ≡ if_then_else_ (longest <? n) (tells 4 (spread 0 0)) (toldResid (residOf c (take n ps)))
+unfolding residFirst
+resid-of-tells c n ps = if-of toldResid _ _ _
+
 -- LONG, number 4, exactly for more than 64 targets; else TARGET, number 5, exactly for one off the panel; else the verdict.
 pub check-tells : (c : Cal) (ps : List Point) → toldCheck (checkOf c ps)
     ≡ if_then_else_ (longest <? length ps) (tells 4 none) (if_then_else_ (allOnPanel ps) (tells 0 (judged (verdictOf c ps))) (tells 5 none))
@@ -79,3 +83,7 @@ check-tells c ps = if-of toldCheck _ _ _ ∙ ap (if_then_else_ (longest <? lengt
 pub verdict-is : (c : Cal) (ps : List Point) → verdictOf c ps ≡ if_then_else_ (scaleHolds c) (if_then_else_ (allStay c ps) Pass Shift) Scale
 unfolding verdictOf
 verdict-is c ps = refl
+
+pub check-of-tells : (c : Cal) (n : ℕ) (ps : List Point) → toldCheck (checkFirst c n ps) ≡ if_then_else_ (longest <? n) (tells 4 none) (toldCheck (checkOf c (take n ps)))
+unfolding checkFirst
+check-of-tells c n ps = if-of toldCheck _ _ _

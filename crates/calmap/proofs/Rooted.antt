@@ -1,7 +1,7 @@
 -- `rootOf v` is the largest r with r·r ≤ v, for every v of 64 bits, and there is one such r. Assumes nothing.
-use mathlib.Core.Path.{_≡_, refl, sym, ap, subst, _∙_}
-use mathlib.Core.Bool.{Bool, true, false, not}
 use Prim.Native.Nat.{ℕ, zero, suc, _+_, _*_, _/_, _^_, _≤_, _<_, zero-le}
+use mathlib.Core.Path.{_≡_, sym, ap, subst, _∙_}
+use mathlib.Core.Bool.{Bool, true, false, not}
 use native.Mathlib.Nat.{le-trans, lt-of-lt-of-le, lt-of-le-of-lt, zero-lt-suc, lt-of-not-le, not-le-of-lt, le-antisymm, mul-add, add-mul, mul-le-mul, div-lt-iff-lt-mul, div-mul-le-self, pow-suc}
 use native.Mathlib.Omega.{arith}
 use lib.Dec.{T, leb, leb→le, nleb→lt}

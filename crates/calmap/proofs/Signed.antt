@@ -1,11 +1,10 @@
 -- Sizes of sums, differences and products of integers, what a signed local's bits read back as, and the ends of i32
 -- and i16 as tests leave them. Assumes nothing.
-use mathlib.Core.Path.{_≡_, refl, sym, subst, ap, _∙_}
-use mathlib.Core.Bool.{Bool, true, false, cond, not}
 use Prim.Native.Nat.{ℕ, zero, suc, _+_, _-_, _*_, _≤_, _<_, zero-le}
+use mathlib.Core.Path.{_≡_, refl, sym, subst, _∙_}
+use mathlib.Core.Bool.{Bool, true, false, cond, not}
 use native.Mathlib.Nat.{le-refl, le-trans, le-suc, mul-le-mul}
 use native.Mathlib.Omega.{arith}
-use borrow.Author.Tests.{lt-ltb, le-ltb, le-leb, lt-leb, ltb-false}
 use lib.Dec.{T, leb, ltb, ltb→lt, nltb→le}
 use lib.IntN.{ℤ, pos, negsuc, negℤ, natAbs, _+ℤ_, _-ℤ_, _*ℤ_}
 use lib.Signed.{mag, ltZ, leZ, nonNeg, natAbs-le}
@@ -13,8 +12,9 @@ use mir.Syntax.{w16, w32, w64}
 use mir.Val.{toZ, ofZ, SFits}
 use mir.ValLaws.{toZ-ofZ}
 use mir.Facts.{sfits-widen}
-use Rattle.calmap.specs.Sizes.{end32, end16}
-use Rattle.calmap.specs.Wide.{in32, in16}
+use borrow.Author.Tests.{lt-ltb, le-leb, lt-leb, ltb-false}
+use Rattle.calmap.specs.Sizes.{end32}
+use Rattle.calmap.specs.Wide.{in32}
 
 -- Sizes.
 
@@ -91,10 +91,6 @@ module _ (low : ℕ) where
 pub in32-yes : (z : ℤ) → mag z < end32 → in32 z ≡ true
 unfolding in32
 in32-yes z h = lt-ltb _ _ h
-
-pub in32-no : (z : ℤ) → end32 ≤ mag z → in32 z ≡ false
-unfolding in32
-in32-no z h = le-ltb _ _ h
 
 -- A square.
 

@@ -1,24 +1,24 @@
 -- Distances added up: a loop's sum and largest so far, and what the list still holds, make the whole. Assumes nothing.
-use mathlib.Core.Path.{_≡_, refl, sym, ap, _∙_}
+use Prim.Native.Nat.{ℕ, suc, _+_, _/_, _<_, max}
+use mathlib.Core.Path.{_≡_, refl, sym, ap}
 use mathlib.Core.List.{List, [], _∷_}
-use Prim.Native.Nat.{ℕ, suc, _+_, _/_, _≤_, _<_, max}
 use native.Mathlib.Nat.{add-zero, zero-add, add-assoc, max-zero, zero-max}
 use native.Mathlib.Omega.{arith}
 use lib.ListN.{length}
 use Rattle.panel.specs.Centroids.{total, mean}
-use Rattle.calmap.specs.Resids.{Misses, known, wide, besides, missOf, missesOf, largest, spread, spreadOf}
+use Rattle.panel.specs.declared.refusals.Refusal.{Refusal}
+use Rattle.panel.specs.declared.refusals.Refusal.the-variants as Refusal
 use Rattle.calmap.specs.Checked.{tallyOf}
+use Rattle.calmap.specs.Resids.{Misses, known, wide, besides, missOf, missesOf, largest, spread, spreadOf}
+use Rattle.calmap.specs.declared.gaps.Dist10Answer.{Dist10Answer}
+use Rattle.calmap.specs.declared.gaps.Dist10Answer.the-variants as Dist10
+use Rattle.calmap.specs.declared.residuals.ResidAnswer.{ResidAnswer}
+use Rattle.calmap.specs.declared.residuals.ResidAnswer.the-variants.{Answered, Refused}
+use Rattle.calmap.specs.declared.residuals.Tally.{Tally}
+use Rattle.calmap.specs.declared.residuals.Tally.the-variants.{Sums, Wide}
 use Rattle.calmap.specs.declared.units.Cal.{Cal}
 use Rattle.calmap.specs.declared.units.Pair.{Pair}
 use Rattle.calmap.specs.declared.units.Tenths.{Tenths}
-use Rattle.panel.specs.declared.refusals.Refusal.{Refusal}
-use Rattle.panel.specs.declared.refusals.Refusal.the-variants as Refusal
-use Rattle.calmap.specs.declared.gaps.Dist10Answer.{Dist10Answer}
-use Rattle.calmap.specs.declared.gaps.Dist10Answer.the-variants as Dist10
-use Rattle.calmap.specs.declared.residuals.Tally.{Tally}
-use Rattle.calmap.specs.declared.residuals.Tally.the-variants.{Sums, Wide}
-use Rattle.calmap.specs.declared.residuals.ResidAnswer.{ResidAnswer}
-use Rattle.calmap.specs.declared.residuals.ResidAnswer.the-variants.{Answered, Refused}
 
 pub misses-cons : (c : Cal) (p : Pair) (ps : List Pair) → missesOf c (p ∷ ps) ≡ besides (missOf c p) (missesOf c ps)
 unfolding missesOf

@@ -2,26 +2,26 @@
 -- distances added up. proofs/Chains.antt and proofs/Tallying.antt have that they end where specs/Maps.antt,
 -- Screening.antt, Distances.antt and Resids.antt say.
 use Prim.Native.Nat.{ℕ, _+_, _-_, max}
-use lib.IntN.{ℤ, pos, _+ℤ_}
-use Rattle.panel.specs.Tests.{if_then_else_}
-use Rattle.panel.specs.Sizes.{width, height}
+use lib.IntN.{ℤ, _+ℤ_}
 use Rattle.panel.specs.Centroids.{total}
+use Rattle.panel.specs.Sizes.{width, height}
+use Rattle.panel.specs.Tests.{if_then_else_}
 use Rattle.panel.specs.declared.points.Point.{Point}
 use Rattle.panel.specs.declared.refusals.Refusal.the-variants as Refusal
+use Rattle.calmap.specs.Maps.{line, lineFits, spot}
+use Rattle.calmap.specs.Resids.{Misses, known, wide, largest}
+use Rattle.calmap.specs.Screening.{nudge, nudgeFits, moved}
 use Rattle.calmap.specs.Sizes.{twelve}
 use Rattle.calmap.specs.Wide.{in32, down}
-use Rattle.calmap.specs.Maps.{line, lineFits, spot}
-use Rattle.calmap.specs.Screening.{nudge, nudgeFits, moved}
-use Rattle.calmap.specs.Resids.{Misses, known, wide, largest}
-use Rattle.calmap.specs.declared.residuals.Tally.{Tally}
-use Rattle.calmap.specs.declared.residuals.Tally.the-variants as Tally
-use Rattle.calmap.specs.declared.units.Q16.{Q16}
 use Rattle.calmap.specs.declared.checked.Narrow.{Narrow}
 use Rattle.calmap.specs.declared.checked.Narrow.the-variants.{In, Wide}
 use Rattle.calmap.specs.declared.mapping.ApplyAnswer.{ApplyAnswer}
 use Rattle.calmap.specs.declared.mapping.ApplyAnswer.the-variants as Apply
+use Rattle.calmap.specs.declared.residuals.Tally.{Tally}
+use Rattle.calmap.specs.declared.residuals.Tally.the-variants as Tally
 use Rattle.calmap.specs.declared.screens.ScreenAnswer.{ScreenAnswer}
 use Rattle.calmap.specs.declared.screens.ScreenAnswer.the-variants as Screen
+use Rattle.calmap.specs.declared.units.Q16.{Q16}
 
 unfoldable pub narrowOf : ℤ → Narrow
 narrowOf z = if in32 z then In z else Wide

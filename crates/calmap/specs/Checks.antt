@@ -6,25 +6,25 @@
 use Prim.Native.Nat.{ℕ}
 use mathlib.Core.Bool.{Bool, true, false}
 use mathlib.Core.List.{List, [], _∷_}
-use lib.IntN.{ℤ, pos, natAbs, _-ℤ_}
+use lib.IntN.{pos, natAbs, _-ℤ_}
 use lib.ListN.{length, take}
-use Rattle.panel.specs.Tests.{if_then_else_, _and_, _≤?_, _<?_}
 use Rattle.panel.specs.Points.{allOnPanel}
 use Rattle.panel.specs.Refusals.{Told, answered, refused}
+use Rattle.panel.specs.Tests.{if_then_else_, _and_, _≤?_, _<?_}
 use Rattle.panel.specs.declared.points.Point.{Point}
 use Rattle.panel.specs.declared.refusals.Refusal.the-variants.{Long, Target}
-use Rattle.calmap.specs.Sizes.{longest, scaleLimit, shiftLimit}
 use Rattle.calmap.specs.Maps.{applyOf}
 use Rattle.calmap.specs.Resids.{inSixteenths}
+use Rattle.calmap.specs.Sizes.{longest, scaleLimit, shiftLimit}
+use Rattle.calmap.specs.declared.limits.CheckAnswer.{CheckAnswer}
+use Rattle.calmap.specs.declared.limits.CheckAnswer.the-variants.{Answered, Refused}
+use Rattle.calmap.specs.declared.limits.Verdict.{Verdict}
+use Rattle.calmap.specs.declared.limits.Verdict.the-variants.{Pass, Scale, Shift}
+use Rattle.calmap.specs.declared.mapping.ApplyAnswer.{ApplyAnswer}
+use Rattle.calmap.specs.declared.mapping.ApplyAnswer.the-variants as Apply
 use Rattle.calmap.specs.declared.units.Cal.{Cal}
 use Rattle.calmap.specs.declared.units.Q16.{Q16}
 use Rattle.calmap.specs.declared.units.Sixteenths.{Sixteenths}
-use Rattle.calmap.specs.declared.mapping.ApplyAnswer.{ApplyAnswer}
-use Rattle.calmap.specs.declared.mapping.ApplyAnswer.the-variants as Apply
-use Rattle.calmap.specs.declared.limits.Verdict.{Verdict}
-use Rattle.calmap.specs.declared.limits.Verdict.the-variants.{Pass, Scale, Shift}
-use Rattle.calmap.specs.declared.limits.CheckAnswer.{CheckAnswer}
-use Rattle.calmap.specs.declared.limits.CheckAnswer.the-variants.{Answered, Refused}
 
 unfoldable pub mild : Q16 → Bool
 mild q = natAbs (q .0) ≤? scaleLimit

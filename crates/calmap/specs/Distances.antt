@@ -4,16 +4,16 @@
 -- i32; a sum of 2^63 (past the Rust's i64) is answered."
 use Prim.Native.Nat.{ℕ, _+_, _*_, _/_}
 use lib.IntN.{ℤ, natAbs, _-ℤ_}
-use Rattle.panel.specs.Tests.{if_then_else_, _and_}
 use Rattle.panel.specs.Refusals.{Told, answered, refused}
+use Rattle.panel.specs.Tests.{if_then_else_, _and_}
 use Rattle.panel.specs.declared.refusals.Refusal.the-variants.{Wide}
+use Rattle.calmap.specs.Roots.{rootOf}
 use Rattle.calmap.specs.Sizes.{tenthsIn, sixteenthsIn}
 use Rattle.calmap.specs.Wide.{in32}
-use Rattle.calmap.specs.Roots.{rootOf}
-use Rattle.calmap.specs.declared.units.Sixteenths.{Sixteenths}
-use Rattle.calmap.specs.declared.units.Tenths.{Tenths}
 use Rattle.calmap.specs.declared.gaps.Dist10Answer.{Dist10Answer}
 use Rattle.calmap.specs.declared.gaps.Dist10Answer.the-variants.{Answered, Refused}
+use Rattle.calmap.specs.declared.units.Sixteenths.{Sixteenths}
+use Rattle.calmap.specs.declared.units.Tenths.{Tenths}
 
 -- the square of the straight line by dx and dy
 unfoldable pub squared : ℤ → ℤ → ℕ

@@ -1,25 +1,25 @@
 -- Lent lists, as the code holds them: an array of 64, a count, and whether the list goes on. The code's own, no rule of
 -- document 01: proofs/Holding.antt has that `resid` and `check` of what is held are those of the lists.
 use Prim.Native.Nat.{ℕ, zero, suc, _+_, min}
-use mathlib.Core.Bool.{Bool, true}
+use mathlib.Core.Bool.{true}
 use mathlib.Core.List.{List, [], _∷_}
 use lib.IntN.{pos}
 use lib.ListN.{length, set}
 use Rattle.panel.specs.Tests.{if_then_else_, _and_, _<?_}
 use Rattle.panel.specs.declared.points.Point.{Point}
 use Rattle.panel.specs.declared.refusals.Refusal.the-variants.{Long}
-use Rattle.calmap.specs.Sizes.{longest}
-use Rattle.calmap.specs.Resids.{pairsOf, residFirst}
 use Rattle.calmap.specs.Checks.{checkFirst}
-use Rattle.calmap.specs.declared.units.Cal.{Cal}
-use Rattle.calmap.specs.declared.units.Tap.{Tap}
-use Rattle.calmap.specs.declared.held.Taps.{Taps}
-use Rattle.calmap.specs.declared.held.Points.{Points}
+use Rattle.calmap.specs.Resids.{pairsOf, residFirst}
+use Rattle.calmap.specs.Sizes.{longest}
 use Rattle.calmap.specs.declared.held.Pairs.{Pairs}
-use Rattle.calmap.specs.declared.residuals.ResidAnswer.{ResidAnswer}
-use Rattle.calmap.specs.declared.residuals.ResidAnswer.the-variants as Resid
+use Rattle.calmap.specs.declared.held.Points.{Points}
+use Rattle.calmap.specs.declared.held.Taps.{Taps}
 use Rattle.calmap.specs.declared.limits.CheckAnswer.{CheckAnswer}
 use Rattle.calmap.specs.declared.limits.CheckAnswer.the-variants as Check
+use Rattle.calmap.specs.declared.residuals.ResidAnswer.{ResidAnswer}
+use Rattle.calmap.specs.declared.residuals.ResidAnswer.the-variants as Resid
+use Rattle.calmap.specs.declared.units.Cal.{Cal}
+use Rattle.calmap.specs.declared.units.Tap.{Tap}
 
 -- the first k of a list, and zeros where it has no more
 unfoldable pub filled : {A : Type 0} → A → ℕ → List A → List A

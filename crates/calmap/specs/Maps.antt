@@ -2,20 +2,19 @@
 --
 -- "`apply16`: x·65536 + c0·x + c1·y + c2, left to right in i32, then shift down by twelve places, toward minus infinity;
 -- likewise y. WIDE if x or y is outside i16, or a product or partial sum leaves i32."
-use Prim.Native.Nat.{ℕ}
 use mathlib.Core.Bool.{Bool}
 use lib.IntN.{ℤ, pos, _+ℤ_, _*ℤ_}
-use Rattle.panel.specs.Tests.{if_then_else_, _and_}
 use Rattle.panel.specs.Refusals.{Told, answered, refused}
+use Rattle.panel.specs.Tests.{if_then_else_, _and_}
 use Rattle.panel.specs.declared.refusals.Refusal.the-variants.{Wide}
 use Rattle.calmap.specs.Sizes.{one, twelve}
 use Rattle.calmap.specs.Wide.{in32, in16, down}
+use Rattle.calmap.specs.declared.mapping.ApplyAnswer.{ApplyAnswer}
+use Rattle.calmap.specs.declared.mapping.ApplyAnswer.the-variants.{Answered, Refused}
+use Rattle.calmap.specs.declared.mapping.Spot.{Spot}
 use Rattle.calmap.specs.declared.units.Cal.{Cal}
 use Rattle.calmap.specs.declared.units.Q16.{Q16}
 use Rattle.calmap.specs.declared.units.Sixteenths.{Sixteenths}
-use Rattle.calmap.specs.declared.mapping.Spot.{Spot}
-use Rattle.calmap.specs.declared.mapping.ApplyAnswer.{ApplyAnswer}
-use Rattle.calmap.specs.declared.mapping.ApplyAnswer.the-variants.{Answered, Refused}
 
 -- v·65536 + p·x + q·y + k
 unfoldable pub line : ℤ → Q16 → Q16 → Q16 → ℤ → ℤ → ℤ

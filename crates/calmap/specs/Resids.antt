@@ -6,24 +6,24 @@ use Prim.Native.Nat.{ℕ, max}
 use mathlib.Core.List.{List, [], _∷_}
 use lib.IntN.{ℤ, pos, _*ℤ_}
 use lib.ListN.{length, take}
-use Rattle.panel.specs.Tests.{if_then_else_, _<?_}
 use Rattle.panel.specs.Centroids.{mean}
 use Rattle.panel.specs.Refusals.{Told, answered, refused}
+use Rattle.panel.specs.Tests.{if_then_else_, _<?_}
 use Rattle.panel.specs.declared.refusals.Refusal.the-variants.{Wide, Long}
-use Rattle.calmap.specs.Sizes.{sixteenthsIn, longest}
-use Rattle.calmap.specs.Maps.{applyOf, sixteenths}
 use Rattle.calmap.specs.Distances.{dist10Of, tenths}
-use Rattle.calmap.specs.declared.units.Cal.{Cal}
-use Rattle.calmap.specs.declared.units.Sixteenths.{Sixteenths}
-use Rattle.calmap.specs.declared.units.Tap.{Tap}
-use Rattle.calmap.specs.declared.units.Pair.{Pair}
-use Rattle.calmap.specs.declared.mapping.ApplyAnswer.{ApplyAnswer}
-use Rattle.calmap.specs.declared.mapping.ApplyAnswer.the-variants as Apply
+use Rattle.calmap.specs.Maps.{applyOf, sixteenths}
+use Rattle.calmap.specs.Sizes.{sixteenthsIn, longest}
 use Rattle.calmap.specs.declared.gaps.Dist10Answer.{Dist10Answer}
 use Rattle.calmap.specs.declared.gaps.Dist10Answer.the-variants as Dist10
-use Rattle.calmap.specs.declared.residuals.Spread.{Spread}
+use Rattle.calmap.specs.declared.mapping.ApplyAnswer.{ApplyAnswer}
+use Rattle.calmap.specs.declared.mapping.ApplyAnswer.the-variants as Apply
 use Rattle.calmap.specs.declared.residuals.ResidAnswer.{ResidAnswer}
 use Rattle.calmap.specs.declared.residuals.ResidAnswer.the-variants.{Answered, Refused}
+use Rattle.calmap.specs.declared.residuals.Spread.{Spread}
+use Rattle.calmap.specs.declared.units.Cal.{Cal}
+use Rattle.calmap.specs.declared.units.Pair.{Pair}
+use Rattle.calmap.specs.declared.units.Sixteenths.{Sixteenths}
+use Rattle.calmap.specs.declared.units.Tap.{Tap}
 
 -- raw taps and their targets, to the shorter length
 unfoldable pub pairsOf : List Tap → List Tap → List Pair

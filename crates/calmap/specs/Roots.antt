@@ -19,5 +19,6 @@ unfoldable pub rootBy : ℕ → ℕ → ℕ
 rootBy zero v = 0
 rootBy (suc n) v = digit (2 * rootBy n (v / 4)) v
 
+-- a u64 has 32 pairs
 unfoldable pub rootOf : ℕ → ℕ
 rootOf v = rootBy 32 v

@@ -6,17 +6,17 @@
 use Prim.Native.Nat.{ℕ, _-_, min}
 use mathlib.Core.Bool.{Bool}
 use lib.IntN.{ℤ, pos, negsuc, _+ℤ_, _*ℤ_}
-use Rattle.panel.specs.Tests.{if_then_else_, _and_}
-use Rattle.panel.specs.Sizes.{width, height}
 use Rattle.panel.specs.Refusals.{Told, answered, refused}
+use Rattle.panel.specs.Sizes.{width, height}
+use Rattle.panel.specs.Tests.{if_then_else_, _and_}
 use Rattle.panel.specs.declared.points.Point.{Point}
 use Rattle.panel.specs.declared.refusals.Refusal.the-variants.{Wide}
 use Rattle.calmap.specs.Sizes.{half, sixteen}
 use Rattle.calmap.specs.Wide.{in32, down}
-use Rattle.calmap.specs.declared.units.Cal.{Cal}
-use Rattle.calmap.specs.declared.units.Q16.{Q16}
 use Rattle.calmap.specs.declared.screens.ScreenAnswer.{ScreenAnswer}
 use Rattle.calmap.specs.declared.screens.ScreenAnswer.the-variants.{Answered, Refused}
+use Rattle.calmap.specs.declared.units.Cal.{Cal}
+use Rattle.calmap.specs.declared.units.Q16.{Q16}
 
 -- p·x + q·y + k + 32768
 unfoldable pub nudge : Q16 → Q16 → Q16 → ℤ → ℤ → ℤ

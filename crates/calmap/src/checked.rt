@@ -13,6 +13,7 @@ pub(crate) enum Narrow {
     Wide,
 }
 
+// v, where it is one of i32.
 fn fit32(v: i64) -> Narrow
     ensures { λ r. ⌜ r ≡ narrowOf v ⌝ }
 {
@@ -25,6 +26,7 @@ fn fit32(v: i64) -> Narrow
     Narrow::In(v as i32)
 }
 
+// The product of two numbers of 32 bits fits 64, and so do their sum and their difference.
 pub(crate) fn times(a: i32, b: i32) -> Narrow
     ensures { λ r. ⌜ r ≡ narrowOf (a *ℤ b) ⌝ }
 {
@@ -43,13 +45,14 @@ fn sub(a: i32, b: i32) -> Narrow
     fit32((a as i64) - (b as i64))
 }
 
-// So many steps for each of x.
+// So many steps for each pixel of x.
 pub(crate) fn scaled(q: Q16, x: i32) -> Narrow
     ensures { λ r. ⌜ r ≡ narrowOf (q .0 *ℤ x) ⌝ }
 {
     times(q.0, x)
 }
 
+// Steps as they are.
 pub(crate) fn steps(q: Q16) -> Narrow
     ensures { λ r. ⌜ r ≡ In (q .0) ⌝ }
 {

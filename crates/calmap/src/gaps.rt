@@ -10,12 +10,13 @@ use crate::units::Sixteenths;
 use crate::units::Tenths;
 use panel::Refusal;
 
+// A distance in tenths of a pixel.
 pub enum Dist10Answer {
     Answered(Tenths),
     Refused(Refusal),
 }
 
-// It is formed at 64 bits, where it always fits: at most 2^62.
+// The square of a difference. It is formed at 64 bits, where it always fits: at most 2^62.
 fn square(d: i32) -> u64
     ensures { λ r. ⌜ (r ≡ natAbs d * natAbs d) × (r ≤ 4611686018427387904) ⌝ }
 {

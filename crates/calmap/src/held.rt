@@ -19,24 +19,28 @@ use crate::units::Tap;
 use panel::Point;
 use panel::Refusal;
 
-pub struct Taps {
+// Taps of a lent list.
+pub(crate) struct Taps {
     pub list: [Tap; MAX_TAPS],
     pub n: usize,
     pub long: bool,
 }
 
+// Points of a lent list.
 pub struct Points {
     pub list: [Point; MAX_TAPS],
     pub n: usize,
     pub long: bool,
 }
 
+// Taps of one lent list beside those of another, as far as both go.
 pub struct Pairs {
     pub list: [Pair; MAX_TAPS],
     pub n: usize,
     pub long: bool,
 }
 
+// None yet.
 pub(crate) fn no_taps() -> Taps
     ensures { λ r. ⌜ r ≡ heldTaps [] ⌝ }
 {
@@ -64,6 +68,7 @@ pub(crate) fn put_tap(l: Taps, t: Tap) -> Taps
     r
 }
 
+// None yet.
 pub(crate) fn no_points() -> Points
     ensures { λ r. ⌜ r ≡ heldPoints [] ⌝ }
 {
@@ -91,12 +96,14 @@ pub(crate) fn put_point(l: Points, p: Point) -> Points
     r
 }
 
+// The smaller of two counts.
 fn smaller(a: usize, b: usize) -> usize
     ensures { λ r. ⌜ r ≡ min a b ⌝ }
 {
     if a <= b { a } else { b }
 }
 
+// Room for pairs.
 fn blank() -> [Pair; MAX_TAPS]
     ensures { λ r. ⌜ length r ≡ longest ⌝ }
 {

@@ -15,7 +15,7 @@ use crate::units::Tap;
 use panel::Point;
 
 // The taps of a list.
-pub fn taps_of(s: &[Tap]) -> Taps
+pub(crate) fn taps_of(s: &[Tap]) -> Taps
     ensures { λ r. ⌜ r ≡ heldTaps (now (s .entry)) ⌝ }
 {
     let mut l = held::no_taps();

@@ -39,6 +39,8 @@ const MAX_SCALE_DEV: i32 = 9830;
 // A target is moved by at most this each way, in sixteenths: 40 pixels.
 const MAX_SHIFT: i32 = 640;
 
+// Whether a scale or a cross term is near the identity's. The most negative i32, which has no abs in
+// i32, is not.
 fn is_mild(q: Q16) -> bool
     ensures { λ r. ⌜ r ≡ mild q ⌝ }
 {
@@ -49,6 +51,7 @@ fn is_mild(q: Q16) -> bool
     v <= MAX_SCALE_DEV
 }
 
+// Whether a, b, d and e are: the shifts c and f are held to the targets instead.
 fn scale_holds(c: Cal) -> bool
     ensures { λ r. ⌜ r ≡ scaleHolds c ⌝ }
 {
@@ -75,7 +78,7 @@ fn is_near(s: Sixteenths, v: u16) -> bool
     d <= MAX_SHIFT
 }
 
-// Whether a target is moved to a place that is near.
+// Whether a target is moved to a place that is near. A sum past i32 is not near.
 fn is_kept(c: Cal, p: Point) -> bool
     ensures { λ r. ⌜ r ≡ stays c p ⌝ }
 {
@@ -89,6 +92,7 @@ fn is_kept(c: Cal, p: Point) -> bool
     false
 }
 
+// Whether each of the first n targets is.
 fn all_kept(c: Cal, targets: [Point; MAX_TAPS], n: usize) -> bool
     requires { ⌜ n ≤ longest ⌝ }
     ensures { λ r. ⌜ r ≡ allStay c (take n targets) ⌝ }
@@ -105,6 +109,7 @@ fn all_kept(c: Cal, targets: [Point; MAX_TAPS], n: usize) -> bool
     true
 }
 
+// Whether each of the first n targets is on the panel.
 fn all_on_panel(targets: [Point; MAX_TAPS], n: usize) -> bool
     requires { ⌜ n ≤ longest ⌝ }
     ensures { λ r. ⌜ r ≡ allOnPanel (take n targets) ⌝ }
@@ -121,6 +126,7 @@ fn all_on_panel(targets: [Point; MAX_TAPS], n: usize) -> bool
     true
 }
 
+// The verdict, on targets that are on the panel.
 fn judge(c: Cal, targets: [Point; MAX_TAPS], n: usize) -> Verdict
     requires { ⌜ n ≤ longest ⌝ }
     ensures { λ r. ⌜ r ≡ verdictOf c (take n targets) ⌝ }

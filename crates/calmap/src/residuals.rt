@@ -40,6 +40,7 @@ enum Tally {
     Wide,
 }
 
+// The larger of two numbers.
 fn larger(a: u32, b: u32) -> u32
     ensures { λ r. ⌜ r ≡ max a b ⌝ }
 {

@@ -60,6 +60,7 @@ fn shifted(last: u16, v: u16, s: i32) -> u16
     clamped(moved_by(v, s), last)
 }
 
+// A point moved by two sums in steps, and held to the panel.
 fn placed(p: Point, dx: Narrow, dy: Narrow) -> ScreenAnswer
     ensures { λ r. ⌜ r ≡ placedOf p dx dy ⌝ }
 {

@@ -1,8 +1,8 @@
-use borrow.Author.Needs.{needs}
-use mathlib.Core.Path.{_≡_, _∙_, ap}
+use mathlib.Core.Path.{_≡_, _∙_}
 use lib.IntN.{ℤ, _+ℤ_}
 use mir.Syntax.{w32}
 use mir.Val.{toZ, ofZ}
+use borrow.Author.Needs.{needs}
 use Rattle.calmap.specs.Checked.{narrowOf, plusOf}
 use Rattle.calmap.proofs.checked.plus.Statement.{statement}
 use Rattle.calmap.proofs.checked.plus.Tie as tie
@@ -32,7 +32,8 @@ add-requires c κs = search needs
 
 returns-3 : tie.Need-returns-3
 unfolding plusOf
-returns-3 c = let x = c .before .before .before .before .before .a .given .0 .0 in
+returns-3 c =
+    let x = c .before .before .before .before .before .a .given .0 .0 in
     let y = c .before .before .b .given .0 .0 in
     let ex : toZ w32 (ofZ w32 x) ≡ x = search needs in
     let ey : toZ w32 (ofZ w32 y) ≡ y = search needs in

@@ -1,8 +1,8 @@
-use borrow.Author.Needs.{needs}
 use mathlib.Core.Path.{_≡_, _∙_}
 use lib.IntN.{_*ℤ_}
 use mir.Syntax.{w32}
 use mir.Val.{toZ, ofZ}
+use borrow.Author.Needs.{needs}
 use Rattle.calmap.specs.Checked.{narrowOf}
 use Rattle.calmap.proofs.Signed.{plain}
 use Rattle.calmap.proofs.checked.scaled.Statement.{statement}
@@ -12,7 +12,8 @@ times-requires : tie.Need-times-requires
 times-requires c κs = search needs
 
 returns : tie.Need-returns
-returns c = let s = c .before .before in
+returns c =
+    let s = c .before .before in
     let e : toZ w32 (ofZ w32 (s .args .q .0)) ≡ s .args .q .0 = search needs in
     c .times .ensures ∙ (λ i. narrowOf (e i *ℤ plain (s .fits .x) i))
 

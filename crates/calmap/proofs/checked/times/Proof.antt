@@ -1,9 +1,9 @@
-use borrow.Author.Needs.{needs}
 use mathlib.Core.Path.{_≡_, sym, subst, ap, _∙_}
 use lib.IntN.{_*ℤ_}
 use mir.Syntax.{w32, w64}
 use mir.Val.{toZ, ofZ, SFits}
 use mir.ValLaws.{toZ-ofZ}
+use borrow.Author.Needs.{needs}
 use Rattle.calmap.specs.Checked.{narrowOf}
 use Rattle.calmap.proofs.Signed.{product-fits, widened, read-twice}
 use Rattle.calmap.proofs.checked.times.Statement.{statement}

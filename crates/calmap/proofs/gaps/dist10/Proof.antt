@@ -1,16 +1,14 @@
-use borrow.Author.Needs.{needs}
-use mathlib.Core.Path.{_≡_, sym, ap, _∙_}
-use mathlib.Core.Bool.{true, false}
-use Prim.Native.Nat.{ℕ, _+_, _*_}
-use lib.IntN.{ℤ, natAbs, _-ℤ_}
+use Prim.Native.Nat.{_+_, _*_}
+use mathlib.Core.Path.{sym, ap, _∙_}
+use lib.IntN.{ℤ, natAbs}
 use mir.Syntax.{w32}
 use mir.Val.{SFits}
+use borrow.Author.Needs.{needs}
 use Rattle.panel.proofs.Follow.{if-true, if-false, and-true, and-false}
-use Rattle.calmap.specs.Wide.{in32}
 use Rattle.calmap.specs.Distances.{squared, tenths, tenthsOf, dist10Of}
 use Rattle.calmap.specs.declared.gaps.Dist10Answer.the-variants.{Answered}
-use Rattle.calmap.proofs.Signed.{plain}
 use Rattle.calmap.proofs.Chains.{narrow-fits, narrow-is, narrow-leaves}
+use Rattle.calmap.proofs.Signed.{plain}
 use Rattle.calmap.proofs.gaps.dist10.Statement.{statement}
 use Rattle.calmap.proofs.gaps.dist10.Tie as tie
 
@@ -38,7 +36,8 @@ enum-told-2 c = search needs
 
 returns-2 : tie.Need-returns-2
 unfolding dist10Of
-returns-2 c = let x = narrow-fits _ _ (sym (c .before .before .before .before .before .before .minus .ensures) ∙ c .before .before .before .before .dx .given .1) in
+returns-2 c =
+    let x = narrow-fits _ _ (sym (c .before .before .before .before .before .before .minus .ensures) ∙ c .before .before .before .before .dx .given .1) in
     let y = narrow-leaves _ (sym (c .before .before .minus2 .ensures) ∙ c .enum-told2 .given .1) in
     sym (if-false _ _ _ (and-true _ _ x ∙ y))
 
@@ -56,7 +55,8 @@ in-tenths-requires c κs = search needs
 
 returns-3 : tie.Need-returns-3
 unfolding dist10Of squared
-returns-3 c = let u = c .before .before .before .before .before .before .before .before .dx .given .0 .0 in
+returns-3 c =
+    let u = c .before .before .before .before .before .before .before .before .dx .given .0 .0 in
     let v = c .before .before .before .before .dy .given .0 .0 in
     let nx = sym (c .before .before .before .before .before .before .before .before .before .before .minus .ensures) ∙ c .before .before .before .before .before .before .before .before .dx .given .1 in
     let ny = sym (c .before .before .before .before .before .before .minus2 .ensures) ∙ c .before .before .before .before .dy .given .1 in

@@ -1,9 +1,9 @@
-use borrow.Author.Needs.{needs}
-use mathlib.Core.Path.{_≡_, ap, _∙_}
 use Prim.Native.Nat.{ℕ, _<_, _*_, _/_}
+use mathlib.Core.Path.{ap}
 use native.Mathlib.Omega.{arith}
-use Rattle.calmap.specs.Sizes.{tenthsIn, sixteenthsIn}
+use borrow.Author.Needs.{needs}
 use Rattle.calmap.specs.Distances.{tenths, tenthsOf}
+use Rattle.calmap.specs.Sizes.{tenthsIn, sixteenthsIn}
 use Rattle.calmap.proofs.Rooted.{root-below-end}
 use Rattle.calmap.proofs.gaps.in_tenths.Statement.{statement}
 use Rattle.calmap.proofs.gaps.in_tenths.Tie as tie

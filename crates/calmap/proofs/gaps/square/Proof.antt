@@ -1,5 +1,5 @@
-use mathlib.Core.Path.{_≡_, sym, subst, ap, _∙_}
 use Prim.Native.Nat.{ℕ, _≤_}
+use mathlib.Core.Path.{_≡_, sym, subst, ap, _∙_}
 use native.Mathlib.Omega.{arith}
 use lib.Dec.{T}
 use lib.IntN.{ℤ, natAbs, _*ℤ_}
@@ -26,7 +26,8 @@ cast-result c = subst (λ (z : ℤ). T (nonNeg z) × Fits w64 (natAbs z)) (sym (
     (square-nonNeg (c .args .d), record { fits = omega (arith, square-is (c .args .d), square-size (c .fits .d)) })
 
 returns : tie.Need-returns
-returns c = let e = ap natAbs (read-back c) ∙ square-is (c .args .d) in
+returns c =
+    let e = ap natAbs (read-back c) ∙ square-is (c .args .d) in
     (e, subst (λ (n : ℕ). n ≤ 4611686018427387904) (sym e) (square-size (c .fits .d)))
 
 pub square-spec : {M : Type 1} → statement M

@@ -1,5 +1,5 @@
-use borrow.Author.Needs.{needs}
 use mathlib.Core.Path.{sym, _∙_}
+use borrow.Author.Needs.{needs}
 use Rattle.panel.proofs.Follow.{if-true, if-false}
 use Rattle.calmap.specs.Held.{checkHeld}
 use Rattle.calmap.proofs.held.check_held.Statement.{statement}

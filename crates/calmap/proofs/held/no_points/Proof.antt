@@ -1,5 +1,5 @@
-use Rattle.calmap.specs.Held.{filled, heldPoints}
 use mathlib.Core.Path.{refl}
+use Rattle.calmap.specs.Held.{filled, heldPoints}
 use Rattle.calmap.proofs.held.no_points.Statement.{statement}
 use Rattle.calmap.proofs.held.no_points.Tie as tie
 

@@ -1,5 +1,5 @@
-use Rattle.calmap.specs.Held.{filled, heldTaps}
 use mathlib.Core.Path.{refl}
+use Rattle.calmap.specs.Held.{filled, heldTaps}
 use Rattle.calmap.proofs.held.no_taps.Statement.{statement}
 use Rattle.calmap.proofs.held.no_taps.Tie as tie
 

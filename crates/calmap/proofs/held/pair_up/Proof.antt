@@ -1,5 +1,5 @@
-use borrow.Author.Needs.{needs}
 use mathlib.Core.Path.{sym}
+use borrow.Author.Needs.{needs}
 use Rattle.panel.proofs.Follow.{and-true, and-false}
 use Rattle.calmap.specs.Held.{pairUp}
 use Rattle.calmap.proofs.held.pair_up.Statement.{statement}

@@ -1,5 +1,5 @@
-use borrow.Author.Needs.{needs}
 use mathlib.Core.Path.{sym}
+use borrow.Author.Needs.{needs}
 use borrow.Author.Tests.{lt-ltb, le-ltb}
 use Rattle.panel.proofs.Follow.{if-true, if-false}
 use Rattle.calmap.specs.Held.{putPoint}

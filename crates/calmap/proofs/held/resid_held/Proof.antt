@@ -1,5 +1,5 @@
-use borrow.Author.Needs.{needs}
 use mathlib.Core.Path.{sym, _∙_}
+use borrow.Author.Needs.{needs}
 use Rattle.panel.proofs.Follow.{if-true, if-false}
 use Rattle.calmap.specs.Held.{residHeld}
 use Rattle.calmap.proofs.held.resid_held.Statement.{statement}

@@ -1,13 +1,13 @@
+use Prim.Native.Nat.{ℕ, _-_, _≤_}
 use mathlib.Core.Path.{_≡_, refl, sym, ap, _∙_}
-use Prim.Native.Nat.{ℕ, _-_, _≤_, _<_}
 use native.Mathlib.Omega.{arith}
+use lib.ListN.{take, drop}
 use borrow.Author.Needs.{needs}
-use lib.ListN.{length, take, drop}
-use Rattle.panel.specs.Tests.{_and_}
 use Rattle.panel.proofs.Follow.{and-true, and-false}
-use Rattle.calmap.proofs.Walking.{walk-more, walked}
 use Rattle.panel.specs.Points.{onPanel, allOnPanel}
+use Rattle.panel.specs.Tests.{_and_}
 use Rattle.calmap.proofs.Judging.{panel-cons, panel-none}
+use Rattle.calmap.proofs.Walking.{walk-more, walked}
 use Rattle.calmap.proofs.limits.all_on_panel.Statement.{statement}
 use Rattle.calmap.proofs.limits.all_on_panel.Tie as tie
 
@@ -36,7 +36,8 @@ loop-less : tie.Need-loop-less Inv-loop μ-loop
 loop-less c = search needs
 
 loop-again : tie.Need-loop-again Inv-loop μ-loop
-loop-again c = let l = c .before .before .before .before in
+loop-again c =
+    let l = c .before .before .before .before in
     let s = l .before in
     let pts = s .args .t1 in
     let n = s .args .n in
@@ -44,7 +45,8 @@ loop-again c = let l = c .before .before .before .before in
     (omega arith, l .loop .inv .1 ∙ more ∙ and-true _ _ (sym (c .before .on-panel .ensures) ∙ c .if1 .taken))
 
 returns : tie.Need-returns Inv-loop μ-loop
-returns c = let l = c .before .before .before .before in
+returns c =
+    let l = c .before .before .before .before in
     let s = l .before in
     let pts = s .args .t1 in
     let n = s .args .n in
@@ -52,7 +54,8 @@ returns c = let l = c .before .before .before .before in
     sym (l .loop .inv .1 ∙ more ∙ and-false _ _ (sym (c .before .on-panel .ensures) ∙ c .if1 .left))
 
 returns-2 : tie.Need-returns-2 Inv-loop μ-loop
-returns-2 c = let l = c .before in
+returns-2 c =
+    let l = c .before in
     let s = l .before in
     let pts = s .args .t1 in
     let n = s .args .n in

@@ -1,7 +1,5 @@
+use mathlib.Core.Path.{sym, ap, _∙_}
 use borrow.Author.Needs.{needs}
-use mathlib.Core.Path.{_≡_, sym, ap, _∙_}
-use Prim.Native.Nat.{_≤_}
-use native.Mathlib.Omega.{arith}
 use Rattle.panel.proofs.Follow.{if-true, if-false}
 use Rattle.calmap.specs.declared.limits.CheckAnswer.the-variants.{Answered}
 use Rattle.calmap.proofs.Firsts.{check-long, check-first}
@@ -18,11 +16,13 @@ judge-requires : tie.Need-judge-requires
 judge-requires c κs = search needs
 
 returns-2 : tie.Need-returns-2
-returns-2 c = let on = sym (c .before .before .all-on-panel .ensures) ∙ c .before .if2 .taken in
+returns-2 c =
+    let on = sym (c .before .before .all-on-panel .ensures) ∙ c .before .if2 .taken in
     ap Answered (c .judge .ensures) ∙ sym (check-first _ _ _ (c .before .before .before .if1 .left) ∙ if-true _ _ _ on)
 
 returns-3 : tie.Need-returns-3
-returns-3 c = let off = sym (c .before .all-on-panel .ensures) ∙ c .if2 .left in
+returns-3 c =
+    let off = sym (c .before .all-on-panel .ensures) ∙ c .if2 .left in
     sym (check-first _ _ _ (c .before .before .if1 .left) ∙ if-false _ _ _ off)
 
 pub check-of-spec : {M : Type 1} → statement M

@@ -1,11 +1,11 @@
-use borrow.Author.Needs.{needs}
 use mathlib.Core.Path.{_≡_, sym, _∙_}
 use lib.IntN.{pos}
 use mir.Syntax.{w32}
 use mir.Val.{SFits}
+use borrow.Author.Needs.{needs}
 use Rattle.panel.proofs.Follow.{and-true, and-false}
-use Rattle.calmap.specs.Maps.{applyOf}
 use Rattle.calmap.specs.Checks.{stays}
+use Rattle.calmap.specs.Maps.{applyOf}
 use Rattle.calmap.proofs.Signed.{plain}
 use Rattle.calmap.proofs.limits.is_kept.Statement.{statement}
 use Rattle.calmap.proofs.limits.is_kept.Tie as tie
@@ -45,12 +45,14 @@ is-near-requires-2 c κs = search needs
 
 returns-2 : tie.Need-returns-2
 unfolding stays
-returns-2 c = let near = sym (c .before .before .is-near .ensures) ∙ c .before .if1 .taken in
+returns-2 c =
+    let near = sym (c .before .before .is-near .ensures) ∙ c .before .if1 .taken in
     rw (sym (asked (c .before .before .before .before .before .before)) ∙ c .before .before .before .before .s .given .1) (c .is-near2 .ensures ∙ sym (and-true _ _ near))
 
 returns-3 : tie.Need-returns-3
 unfolding stays
-returns-3 c = let far = sym (c .before .is-near .ensures) ∙ c .if1 .left in
+returns-3 c =
+    let far = sym (c .before .is-near .ensures) ∙ c .if1 .left in
     rw (sym (asked (c .before .before .before .before .before)) ∙ c .before .before .before .s .given .1) (sym (and-false _ _ far))
 
 pub is-kept-spec : {M : Type 1} → statement M

@@ -1,19 +1,19 @@
-use borrow.Author.Needs.{needs}
+use Prim.Native.Nat.{ℕ}
 use mathlib.Core.Path.{_≡_, sym, ap, subst, _∙_}
 use mathlib.Core.Bool.{true, false}
-use Prim.Native.Nat.{ℕ}
 use native.Mathlib.Omega.{arith}
 use lib.IntN.{ℤ, pos, negsuc, _-ℤ_}
 use lib.Signed.{ltZ, leZ}
 use mir.Syntax.{w32}
 use mir.Val.{toZ, ofZ, SFits}
-use Rattle.calmap.specs.Sizes.{shiftLimit}
-use Rattle.calmap.specs.Resids.{inSixteenths}
-use Rattle.calmap.specs.Checks.{near}
+use borrow.Author.Needs.{needs}
 use Rattle.calmap.specs.Checked.{narrowOf}
+use Rattle.calmap.specs.Checks.{near}
+use Rattle.calmap.specs.Resids.{inSixteenths}
+use Rattle.calmap.specs.Sizes.{shiftLimit}
 use Rattle.calmap.specs.declared.units.Sixteenths.{Sixteenths}
-use Rattle.calmap.proofs.Signed.{plain, abs-over, abs-up-to, abs-wide}
 use Rattle.calmap.proofs.Chains.{narrow-is, narrow-leaves}
+use Rattle.calmap.proofs.Signed.{plain, abs-over, abs-up-to, abs-wide}
 use Rattle.calmap.proofs.limits.is_near.Statement.{statement}
 use Rattle.calmap.proofs.limits.is_near.Tie as tie
 

@@ -1,13 +1,12 @@
-use borrow.Author.Needs.{needs}
 use mathlib.Core.Path.{_≡_, sym, ap, _∙_}
 use mathlib.Core.Bool.{true, false}
-use lib.IntN.{ℤ}
+use borrow.Author.Needs.{needs}
 use Rattle.panel.proofs.Follow.{if-false, and-true, and-false}
-use Rattle.calmap.specs.Wide.{in16}
-use Rattle.calmap.specs.Maps.{applyOf}
 use Rattle.calmap.specs.Checked.{lineOf, spotOf}
-use Rattle.calmap.proofs.Signed.{plain}
+use Rattle.calmap.specs.Maps.{applyOf}
+use Rattle.calmap.specs.Wide.{in16}
 use Rattle.calmap.proofs.Chains.{apply-chain}
+use Rattle.calmap.proofs.Signed.{plain}
 use Rattle.calmap.proofs.mapping.apply16.Statement.{statement}
 use Rattle.calmap.proofs.mapping.apply16.Tie as tie
 
@@ -27,7 +26,8 @@ spot-at-requires : tie.Need-spot-at-requires
 spot-at-requires c κs = search needs
 
 returns : tie.Need-returns
-returns c = let s = c .before .before .before .before .before .before .before in
+returns c =
+    let s = c .before .before .before .before .before .before .before in
     let k = s .args .c in
     let x = s .args .x in
     let y = s .args .y in
@@ -41,14 +41,16 @@ returns c = let s = c .before .before .before .before .before .before .before in
 
 returns-2 : tie.Need-returns-2
 unfolding applyOf
-returns-2 c = let s = c .before .before .before .before in
+returns-2 c =
+    let s = c .before .before .before .before in
     let ex : in16 (s .args .x) ≡ true = ap in16 (sym (plain (s .fits .x))) ∙ sym (c .before .before .before .in-i16 .ensures) ∙ c .before .before .if1 .taken in
     let ey : in16 (s .args .y) ≡ false = ap in16 (sym (plain (s .fits .y))) ∙ sym (c .before .in-i162 .ensures) ∙ c .if2 .left in
     sym (if-false _ _ _ (and-true _ _ ex ∙ and-false _ _ ey))
 
 returns-3 : tie.Need-returns-3
 unfolding applyOf
-returns-3 c = let s = c .before .before in
+returns-3 c =
+    let s = c .before .before in
     let ex : in16 (s .args .x) ≡ false = ap in16 (sym (plain (s .fits .x))) ∙ sym (c .before .in-i16 .ensures) ∙ c .if1 .left in
     sym (if-false _ _ _ (and-false _ _ ex))
 

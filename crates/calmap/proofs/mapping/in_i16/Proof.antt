@@ -14,7 +14,8 @@ returns c = sym (le-ltb _ _ (below-low 32767 (c .before .args .v) (subst (λ (z 
 
 returns-2 : tie.Need-returns-2
 unfolding in16
-returns-2 c = let e = plain (c .before .fits .v) in
+returns-2 c =
+    let e = plain (c .before .fits .v) in
     ap (λ (z : ℤ). ltZ z (pos 32768)) e ∙ from-low 32767 (c .before .args .v) (subst (λ (z : ℤ). ltZ z (negsuc 32767) ≡ false) e (c .if1 .left))
 
 pub in-i16-spec : {M : Type 1} → statement M

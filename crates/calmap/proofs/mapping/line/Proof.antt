@@ -1,10 +1,10 @@
-use borrow.Author.Needs.{needs}
-use mathlib.Core.Path.{_≡_, ap, _∙_}
+use mathlib.Core.Path.{ap, _∙_}
 use lib.IntN.{ℤ, pos, _*ℤ_}
-use Rattle.calmap.specs.Sizes.{one}
+use borrow.Author.Needs.{needs}
 use Rattle.calmap.specs.Checked.{narrowOf, plusOf}
-use Rattle.calmap.proofs.Signed.{plain}
+use Rattle.calmap.specs.Sizes.{one}
 use Rattle.calmap.proofs.Chains.{line-chain}
+use Rattle.calmap.proofs.Signed.{plain}
 use Rattle.calmap.proofs.mapping.line.Statement.{statement}
 use Rattle.calmap.proofs.mapping.line.Tie as tie
 
@@ -30,7 +30,8 @@ plus-requires-3 : tie.Need-plus-requires-3
 plus-requires-3 c κs = search needs
 
 returns : tie.Need-returns
-returns c = let s = c .before .before .before .before .before .before .before in
+returns c =
+    let s = c .before .before .before .before .before .before .before in
     let t = c .before .before .before .before .before .before .times .ensures ∙ ap (λ (z : ℤ). narrowOf (z *ℤ pos one)) (plain (s .fits .v)) in
     let u = c .before .before .before .before .before .scaled .ensures ∙ ap (λ (z : ℤ). narrowOf (s .args .p .0 *ℤ z)) (plain (s .fits .x)) in
     let v = c .before .before .before .scaled2 .ensures ∙ ap (λ (z : ℤ). narrowOf (s .args .q .0 *ℤ z)) (plain (s .fits .y)) in

@@ -1,8 +1,8 @@
-use borrow.Author.Needs.{needs}
 use mir.Syntax.{w32}
 use mir.Val.{SFits}
-use Rattle.calmap.specs.Sizes.{twelve}
+use borrow.Author.Needs.{needs}
 use Rattle.calmap.specs.Checked.{spotOf}
+use Rattle.calmap.specs.Sizes.{twelve}
 use Rattle.calmap.proofs.Floors.{shift-is}
 use Rattle.calmap.proofs.mapping.spot_at.Statement.{statement}
 use Rattle.calmap.proofs.mapping.spot_at.Tie as tie
@@ -29,7 +29,8 @@ returns-2 c = rw (c .before .before .before .fx .given .1, c .enum-told2 .given 
 
 returns-3 : tie.Need-returns-3
 unfolding spotOf
-returns-3 c = let u = c .before .before .before .before .fx .given .0 .0 in
+returns-3 c =
+    let u = c .before .before .before .before .fx .given .0 .0 in
     let v = c .before .fy .given .0 .0 in
     let fu : SFits w32 u = search needs in
     let fv : SFits w32 v = search needs in

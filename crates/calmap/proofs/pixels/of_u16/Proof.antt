@@ -1,8 +1,8 @@
-use borrow.Author.Needs.{needs}
 use Prim.Native.Nat.{_<_}
 use native.Mathlib.Omega.{arith}
 use mir.Facts.{toZ-pos}
 use mir.Syntax.{w32}
+use borrow.Author.Needs.{needs}
 use Rattle.calmap.proofs.pixels.of_u16.Statement.{statement}
 use Rattle.calmap.proofs.pixels.of_u16.Tie as tie
 

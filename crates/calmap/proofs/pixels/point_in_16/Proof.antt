@@ -1,13 +1,12 @@
-use borrow.Author.Needs.{needs}
-use mathlib.Core.Path.{_≡_, sym, ap, subst, _∙_}
 use Prim.Native.Nat.{_<_}
+use mathlib.Core.Path.{_≡_, sym, ap, subst, _∙_}
 use native.Mathlib.Omega.{arith}
 use lib.IntN.{ℤ, pos, _*ℤ_}
-use mir.Syntax.{w16, w32}
+use mir.Syntax.{w32}
 use mir.Val.{toZ, ofZ, SFits}
-use mir.ValLaws.{toZ-ofZ}
-use Rattle.calmap.specs.Sizes.{sixteenthsIn}
+use borrow.Author.Needs.{needs}
 use Rattle.calmap.specs.Maps.{sixteenths}
+use Rattle.calmap.specs.Sizes.{sixteenthsIn}
 use Rattle.calmap.proofs.Signed.{plain, mag-mul}
 use Rattle.calmap.proofs.pixels.point_in_16.Statement.{statement}
 use Rattle.calmap.proofs.pixels.point_in_16.Tie as tie

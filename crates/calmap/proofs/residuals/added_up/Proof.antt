@@ -1,19 +1,18 @@
+use Prim.Native.Nat.{ℕ, _+_, _*_, _-_, _≤_}
 use mathlib.Core.Path.{_≡_, refl, sym, ap, subst, _∙_}
-use Prim.Native.Nat.{ℕ, _+_, _*_, _-_, _≤_, _<_, max}
 use native.Mathlib.Omega.{arith}
-use borrow.Author.Needs.{needs}
 use lib.IntN.{pos}
-use lib.ListN.{length, take, drop, getD}
+use lib.ListN.{take, drop}
+use borrow.Author.Needs.{needs}
+use Rattle.calmap.specs.Checked.{farthest, tallyOf}
 use Rattle.calmap.specs.Distances.{toldDist10}
 use Rattle.calmap.specs.Resids.{Misses, besides, missOf, missesOf}
-use Rattle.calmap.specs.Checked.{farthest, tallyOf}
+use Rattle.calmap.specs.declared.gaps.Dist10Answer.{Dist10Answer}
+use Rattle.calmap.specs.declared.gaps.Dist10Answer.the-variants.{Answered}
 use Rattle.calmap.specs.declared.units.Pair.{Pair}
 use Rattle.calmap.specs.declared.units.Tenths.{Tenths}
-use Rattle.calmap.specs.declared.gaps.Dist10Answer.the-variants.{Answered}
-use Rattle.calmap.specs.declared.gaps.Dist10Answer.{Dist10Answer}
-use Rattle.calmap.specs.declared.residuals.Tally.{Tally}
-use Rattle.calmap.proofs.Walking.{walk-more, walked}
 use Rattle.calmap.proofs.Tallying.{misses-cons, tally-more, tally-stops, tally-none}
+use Rattle.calmap.proofs.Walking.{walk-more, walked}
 use Rattle.calmap.proofs.residuals.added_up.Statement.{statement}
 use Rattle.calmap.proofs.residuals.added_up.Tie as tie
 
@@ -62,12 +61,14 @@ enum-told : tie.Need-enum-told Inv-loop μ-loop
 enum-told c = search needs
 
 returns : tie.Need-returns Inv-loop μ-loop
-returns c = let m = c .before .before in
+returns c =
+    let m = c .before .before in
     let l = m .before .before .before in
     sym (turn m ∙ ap (λ (d : Dist10Answer). tallyOf (l .loop .sum) (l .loop .most) (besides d (rest m))) (c .enum-told .given .1) ∙ tally-stops (l .loop .sum) (l .loop .most) (c .enum-told .given .0 .0) (rest m))
 
 add-sum : tie.Need-add-sum Inv-loop μ-loop
-add-sum c = let m = c .before .before .before .before in
+add-sum c =
+    let m = c .before .before .before .before in
     let l = m .before .before .before in
     let d = near m (c .before .before .d .given .0 .0) (c .before .before .d .given .1) in
     record { fits = omega arith }
@@ -82,7 +83,8 @@ loop-less : tie.Need-loop-less Inv-loop μ-loop
 loop-less c = search needs
 
 loop-again : tie.Need-loop-again Inv-loop μ-loop
-loop-again c = let m = c .before .before .before .before .before in
+loop-again c =
+    let m = c .before .before .before .before .before in
     let l = m .before .before .before in
     let t = c .before .before .before .d .given .0 .0 in
     let d = near m t (c .before .before .before .d .given .1) in
@@ -94,7 +96,8 @@ loop-again c = let m = c .before .before .before .before .before in
     )
 
 returns-2 : tie.Need-returns-2 Inv-loop μ-loop
-returns-2 c = let l = c .before in
+returns-2 c =
+    let l = c .before in
     let s = l .before in
     let n = s .args .n in
     let e : l .loop .i ≡ n = omega arith in

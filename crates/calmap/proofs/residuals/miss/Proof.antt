@@ -1,18 +1,18 @@
-use borrow.Author.Needs.{needs}
-use mathlib.Core.Path.{_≡_, sym, ap, subst, _∙_}
 use Prim.Native.Nat.{_≤_}
+use mathlib.Core.Path.{_≡_, sym, ap, subst, _∙_}
 use native.Mathlib.Omega.{arith}
 use lib.IntN.{ℤ}
 use mir.Syntax.{w16, w32}
 use mir.Val.{toZ, ofZ, SFits}
 use mir.ValLaws.{toZ-ofZ}
-use Rattle.calmap.specs.Maps.{applyOf}
-use Rattle.calmap.specs.Distances.{dist10Of, toldDist10}
-use Rattle.calmap.specs.Resids.{inSixteenths, missOf}
+use borrow.Author.Needs.{needs}
 use Rattle.calmap.specs.Checked.{farthest}
+use Rattle.calmap.specs.Distances.{dist10Of, toldDist10}
+use Rattle.calmap.specs.Maps.{applyOf}
+use Rattle.calmap.specs.Resids.{inSixteenths, missOf}
 use Rattle.calmap.specs.declared.gaps.Dist10Answer.{Dist10Answer}
-use Rattle.calmap.proofs.Signed.{plain}
 use Rattle.calmap.proofs.Bounds.{applied-size, miss-at-most}
+use Rattle.calmap.proofs.Signed.{plain}
 use Rattle.calmap.proofs.residuals.miss.Statement.{statement}
 use Rattle.calmap.proofs.residuals.miss.Tie as tie
 
@@ -68,7 +68,8 @@ dist10-requires c κs = search needs
 
 returns-2 : tie.Need-returns-2
 unfolding missOf
-returns-2 c = let s = c .before .before .before .before .before .before .before .before .before .before .before .before .before .before .before .args in
+returns-2 c =
+    let s = c .before .before .before .before .before .before .before .before .before .before .before .before .before .before .before .args in
     let at = sym (asked (c .before .before .before .before .before .before .before .before)) ∙ c .before .before .before .before .before .before .s .given .1 in
     let p = c .before .before .before .before .before .before .s .given .0 .0 in
     let fx = fits-x (c .before .before .before .before) in

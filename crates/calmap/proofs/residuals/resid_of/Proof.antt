@@ -1,12 +1,11 @@
-use borrow.Author.Needs.{needs}
-use mathlib.Core.Path.{_≡_, refl, sym, ap, subst, _∙_}
-use Prim.Native.Nat.{ℕ, _≤_, _<_}
+use Prim.Native.Nat.{ℕ, _<_}
+use mathlib.Core.Path.{sym, ap, _∙_}
 use native.Mathlib.Omega.{arith}
-use lib.ListN.{length, take, length-take}
-use Rattle.calmap.specs.Resids.{missesOf, spreadOf, spread}
-use Rattle.calmap.specs.declared.residuals.Tally.{Tally}
-use Rattle.calmap.proofs.Tallying.{shared, spread-of-sums, spread-none}
+use lib.ListN.{take, length-take}
+use borrow.Author.Needs.{needs}
+use Rattle.calmap.specs.Resids.{missesOf, spreadOf}
 use Rattle.calmap.proofs.Firsts.{resid-long, resid-first}
+use Rattle.calmap.proofs.Tallying.{shared, spread-of-sums, spread-none}
 use Rattle.calmap.proofs.residuals.resid_of.Statement.{statement}
 use Rattle.calmap.proofs.residuals.resid_of.Tie as tie
 
@@ -14,7 +13,8 @@ returns : tie.Need-returns
 returns c = sym (resid-long _ _ _ (c .if1 .taken))
 
 returns-2 : tie.Need-returns-2
-returns-2 c = let s = c .before .before .args in
+returns-2 c =
+    let s = c .before .before .args in
     sym (resid-first (s .c) (s .n) (s .pairs) (c .before .if1 .left) ∙ ap (λ (k : ℕ). spreadOf (missesOf (s .c) (take k (s .pairs)))) (c .if2 .taken) ∙ spread-none (s .c))
 
 added-up-requires : tie.Need-added-up-requires
@@ -27,7 +27,8 @@ enum-told : tie.Need-enum-told
 enum-told c = search needs
 
 returns-3 : tie.Need-returns-3
-returns-3 c = let s = c .before .before .before .before .before .args in
+returns-3 c =
+    let s = c .before .before .before .before .before .args in
     let n : 0 < s .n = omega arith in
     sym (resid-first (s .c) (s .n) (s .pairs) (c .before .before .before .before .if1 .left) ∙ spread-of-sums (s .c) (take (s .n) (s .pairs)) (s .n) n (rw length-take (omega arith)) ∙ ap (shared (s .n)) (sym (c .before .before .added-up .ensures) ∙ c .enum-told .given .1))
 
@@ -38,7 +39,8 @@ div-t13 : tie.Need-div-t13
 div-t13 c = search needs
 
 returns-4 : tie.Need-returns-4
-returns-4 c = let s = c .before .before .before .before .before .before .before .args in
+returns-4 c =
+    let s = c .before .before .before .before .before .before .before .args in
     let n : 0 < s .n = omega arith in
     sym (resid-first (s .c) (s .n) (s .pairs) (c .before .before .before .before .before .before .if1 .left) ∙ spread-of-sums (s .c) (take (s .n) (s .pairs)) (s .n) n (rw length-take (omega arith)) ∙ ap (shared (s .n)) (sym (c .before .before .before .before .added-up .ensures) ∙ c .before .before .a .given .1))
 

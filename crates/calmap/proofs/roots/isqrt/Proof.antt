@@ -1,10 +1,10 @@
 -- The loop's invariant: y is Newton's step from x, at most 2 ^ 63, and x is the root at least. The measure is x.
-use mathlib.Core.Path.{_≡_, refl, sym, ap, subst, _∙_}
-use Prim.Native.Nat.{ℕ, _+_, _*_, _/_, _%_, _^_, _≤_, _<_}
+use Prim.Native.Nat.{ℕ, _+_, _*_, _/_, _^_, _≤_, _<_}
+use mathlib.Core.Path.{_≡_, refl, sym, subst}
 use native.Mathlib.Nat.{div-self}
 use native.Mathlib.Omega.{arith}
-use Rattle.calmap.proofs.Rooted.{one-root, root-is}
 use Rattle.calmap.proofs.Newton.{own-square, small-root, root-pos, sum-below, step-above, stop-below}
+use Rattle.calmap.proofs.Rooted.{one-root, root-is}
 use Rattle.calmap.proofs.roots.isqrt.Statement.{statement}
 use Rattle.calmap.proofs.roots.isqrt.Tie as tie
 

@@ -1,14 +1,14 @@
-use borrow.Author.Needs.{needs}
-use mathlib.Core.Path.{_≡_, sym, subst, _∙_}
 use Prim.Native.Nat.{_<_}
+use mathlib.Core.Path.{_≡_, sym, subst, _∙_}
 use lib.IntN.{pos, _+ℤ_}
 use lib.Signed.{shrZ}
 use mir.Syntax.{w32}
 use mir.Val.{toZ, ofZ, SFits}
+use borrow.Author.Needs.{needs}
 use Rattle.calmap.specs.Sizes.{sixteen}
 use Rattle.calmap.specs.Wide.{down}
-use Rattle.calmap.proofs.Signed.{plain}
 use Rattle.calmap.proofs.Floors.{shift-is, moved-fits}
+use Rattle.calmap.proofs.Signed.{plain}
 use Rattle.calmap.proofs.screens.moved_by.Statement.{statement}
 use Rattle.calmap.proofs.screens.moved_by.Tie as tie
 

@@ -1,9 +1,9 @@
-use borrow.Author.Needs.{needs}
-use mathlib.Core.Path.{_≡_, ap, _∙_}
+use mathlib.Core.Path.{ap, _∙_}
 use lib.IntN.{ℤ, _*ℤ_}
+use borrow.Author.Needs.{needs}
 use Rattle.calmap.specs.Checked.{narrowOf, plusOf}
-use Rattle.calmap.proofs.Signed.{plain}
 use Rattle.calmap.proofs.Chains.{nudge-chain}
+use Rattle.calmap.proofs.Signed.{plain}
 use Rattle.calmap.proofs.screens.nudge.Statement.{statement}
 use Rattle.calmap.proofs.screens.nudge.Tie as tie
 
@@ -29,7 +29,8 @@ plus-requires-3 : tie.Need-plus-requires-3
 plus-requires-3 c κs = search needs
 
 returns : tie.Need-returns
-returns c = let s = c .before .before .before .before .before .before .before in
+returns c =
+    let s = c .before .before .before .before .before .before .before in
     let u = c .before .before .before .before .before .before .scaled .ensures ∙ ap (λ (z : ℤ). narrowOf (s .args .p .0 *ℤ z)) (plain (s .fits .x)) in
     let v = c .before .before .before .before .before .scaled2 .ensures ∙ ap (λ (z : ℤ). narrowOf (s .args .q .0 *ℤ z)) (plain (s .fits .y)) in
     let a = c .before .before .before .before .plus .ensures ∙ (λ i. plusOf (u i) (v i)) in

@@ -1,12 +1,12 @@
-use borrow.Author.Needs.{needs}
-use mathlib.Core.Path.{_≡_, ap, _∙_}
 use Prim.Native.Nat.{_-_}
+use mathlib.Core.Path.{ap, _∙_}
 use lib.IntN.{ℤ}
 use mir.Syntax.{w32}
 use mir.Val.{SFits}
+use borrow.Author.Needs.{needs}
 use Rattle.panel.specs.Sizes.{width, height}
-use Rattle.calmap.specs.Screening.{moved}
 use Rattle.calmap.specs.Checked.{placedOf}
+use Rattle.calmap.specs.Screening.{moved}
 use Rattle.calmap.specs.declared.screens.ScreenAnswer.the-variants.{Answered}
 use Rattle.calmap.proofs.Signed.{plain}
 use Rattle.calmap.proofs.screens.placed.Statement.{statement}
@@ -46,7 +46,8 @@ shifted-requires-2 c κs = search needs
 
 returns-3 : tie.Need-returns-3
 unfolding placedOf
-returns-3 c = let k = c .before .before in
+returns-3 c =
+    let k = c .before .before in
     let p = c .before .before .before .before .before .before .before .before .args .p in
     let u = k .before .before .before .before .dx .given .0 .0 in
     let v = k .before .dy .given .0 .0 in

@@ -1,10 +1,10 @@
-use borrow.Author.Needs.{needs}
-use mathlib.Core.Path.{_≡_, _∙_}
+use mathlib.Core.Path.{_∙_}
 use mir.Syntax.{w32}
 use mir.Val.{SFits}
+use borrow.Author.Needs.{needs}
 use Rattle.calmap.specs.Checked.{nudgeOf, placedOf}
-use Rattle.calmap.proofs.Signed.{plain}
 use Rattle.calmap.proofs.Chains.{screen-chain}
+use Rattle.calmap.proofs.Signed.{plain}
 use Rattle.calmap.proofs.screens.screen.Statement.{statement}
 use Rattle.calmap.proofs.screens.screen.Tie as tie
 
@@ -24,7 +24,8 @@ placed-requires : tie.Need-placed-requires
 placed-requires c κs = search needs
 
 returns : tie.Need-returns
-returns c = let s = c .before .before .before .before .before in
+returns c =
+    let s = c .before .before .before .before .before in
     let k = s .args .c in
     let wx = c .before .before .before .before .of-u16 in
     let wy = c .before .before .before .of-u162 in

@@ -1,11 +1,11 @@
-use borrow.Author.Needs.{needs}
 use mathlib.Core.Path.{_≡_, ap, _∙_}
 use lib.IntN.{ℤ, pos, _+ℤ_}
 use mir.Syntax.{w32}
-use mir.Val.{toZ, ofZ, SFits}
+use mir.Val.{SFits}
+use borrow.Author.Needs.{needs}
+use Rattle.calmap.specs.Screening.{clamp, moved}
 use Rattle.calmap.specs.Sizes.{sixteen}
 use Rattle.calmap.specs.Wide.{down}
-use Rattle.calmap.specs.Screening.{clamp, moved}
 use Rattle.calmap.proofs.Signed.{plain}
 use Rattle.calmap.proofs.screens.shifted.Statement.{statement}
 use Rattle.calmap.proofs.screens.shifted.Tie as tie
@@ -18,7 +18,8 @@ clamped-requires c κs = search needs
 
 returns : tie.Need-returns
 unfolding moved
-returns c = let s = c .before .before in
+returns c =
+    let s = c .before .before in
     let m = c .before .moved-by .result in
     let f : SFits w32 m = search needs in
     let e : m ≡ pos (s .args .v) +ℤ down sixteen (s .args .s) = c .before .moved-by .ensures ∙ ap (λ (z : ℤ). pos (s .args .v) +ℤ down sixteen z) (plain (s .fits .s)) in
