@@ -1,21 +1,20 @@
 -- Without a calibration no tap is WIDE: coordinates are i16, and each sum of `apply16` is then 65536 times one of them. So what a fit tells
 -- of the residuals before it is always there, and a fit is WIDE by the calibration that it found. Assumes nothing.
-use mathlib.Core.Path.{_≡_, refl, _∙_}
+use mathlib.Core.Path.{_≡_, refl, ap, _∙_}
 use mathlib.Core.Bool.{true}
 use mathlib.Core.List.{List, [], _∷_}
 use Prim.Native.Nat.{ℕ, zero, suc, _*_, _^_, _≤_, _<_}
 use native.Mathlib.Omega.{arith}
 use borrow.Author.Tests.{lt-ltb}
 use lib.Dec.{ltb}
-use lib.IntN.{ℤ, pos, negsuc, negℤ, _*ℤ_, _-ℤ_, +ℤ-idr, zero-*ℤ}
+use lib.IntN.{ℤ, pos, negsuc, negℤ, _*ℤ_, +ℤ-idr, zero-*ℤ}
 use lib.Signed.{mag}
 use Rattle.panel.specs.Tests.{_and_}
 use Rattle.panel.proofs.Follow.{if-true, and-true}
 use Rattle.calmap.specs.Sizes.{end32, one}
 use Rattle.calmap.specs.Wide.{in32, in16}
 use Rattle.calmap.specs.Maps.{line, lineFits, applyOf}
-use Rattle.calmap.specs.Distances.{squared, tenthsOf, tenths, dist10Of}
-use Rattle.calmap.specs.Resids.{inSixteenths, missOf, Misses, known, missesOf}
+use Rattle.calmap.specs.Resids.{farOff, missOf, Misses, known, missesOf}
 use Rattle.calmap.specs.declared.units.Q16.{Q16}
 use Rattle.calmap.specs.declared.units.Tap.{Tap}
 use Rattle.calmap.specs.declared.units.Pair.{Pair}
@@ -23,7 +22,7 @@ use Rattle.calmap.specs.declared.units.Tenths.{Tenths}
 use Rattle.calmap.specs.declared.mapping.Spot.{Spot}
 use Rattle.calmap.specs.declared.mapping.ApplyAnswer.the-variants as Apply
 use Rattle.calmap.specs.declared.gaps.Dist10Answer.the-variants as Dist10
-use Rattle.calmap.proofs.Bounds.{applied-size, apart-size}
+use Rattle.calmap.proofs.Bounds.{applied-size, miss-answered}
 use Rattle.touchcal.specs.Floats.{identity}
 
 -- a tap of i16, and pairs of them
@@ -64,11 +63,6 @@ in-i16 : (v : ℤ) → mag v < 2 ^ 15 → in16 v ≡ true
 unfolding in16
 in-i16 v h = lt-ltb _ _ h
 
--- (the bound of calmap's `apart-size`)
-in-i32 : (z : ℤ) → mag z < 1081346 → in32 z ≡ true
-unfolding in32
-in-i32 z h = lt-ltb (mag z) end32 (omega arith)
-
 record Landed (t : Tap) : Type 0 where
   pub spot : Spot
   pub is : applyOf identity (t .x) (t .y) ≡ Apply.Answered spot
@@ -84,15 +78,11 @@ record Missed (p : Pair) : Type 0 where
   pub is : missOf identity p ≡ Dist10.Answered miss
 
 missed : (p : Pair) → Small (p .raw) → Small (p .tgt) → Missed p
-unfolding missOf dist10Of
+unfolding missOf
 missed p r t =
     let l = landed (p .raw) r in
     let s = applied-size identity (p .raw .x) (p .raw .y) (l .spot) (l .is) in
-    let dx = l .spot .0 .0 -ℤ inSixteenths (p .tgt .x) .0 in
-    let dy = l .spot .1 .0 -ℤ inSixteenths (p .tgt .y) .0 in
-    let x = in-i32 dx (apart-size (l .spot .0 .0) (p .tgt .x) (s .x) (t .x)) in
-    let y = in-i32 dy (apart-size (l .spot .1 .0) (p .tgt .y) (s .y) (t .y)) in
-    record { miss = tenths (tenthsOf (squared dx dy)); is = rw (l .is) (if-true _ _ _ (and-true _ _ x ∙ y)) }
+    record { miss = _; is = ap (λ a. farOff a (p .tgt)) (l .is) ∙ miss-answered (l .spot) (p .tgt .x) (p .tgt .y) s (t .x) (t .y) }
 
 -- ---- so of every list
 
