@@ -22,5 +22,6 @@ pub use lent::fit;
 pub use scpi::Pending;
 pub use scpi::PutAnswer;
 pub use scpi::TakeAnswer;
+pub use scpi::cleared;
 pub use scpi::scpi_put;
 pub use scpi::scpi_take;

@@ -27,8 +27,8 @@ pub enum TakeAnswer {
     Nothing(Pending),
 }
 
-// Nothing pending.
-fn cleared() -> Pending
+// Nothing pending: how it is at the start, and after a call that clears it.
+pub fn cleared() -> Pending
     ensures { λ r. ⌜ r ≡ clear ⌝ }
 {
     let cal = floats::no_cal();
