@@ -1,0 +1,26 @@
+-- `fit` of arrays by value with counts, and of what calmap holds of lent lists. The code's own, no rule of document 01:
+-- proofs/Firsts.antt has that `fit` of what is held is that of the lists (`fit-of-held`).
+use Prim.Native.Nat.{ℕ}
+use mathlib.Core.List.{List}
+use lib.ListN.{take}
+use Rattle.panel.specs.Tests.{if_then_else_, _or_, _<?_}
+use Rattle.panel.specs.declared.points.Point.{Point}
+use Rattle.panel.specs.declared.refusals.Refusal.the-variants.{Long}
+use Rattle.calmap.specs.Sizes.{longest}
+use Rattle.calmap.specs.declared.units.Pair.{Pair}
+use Rattle.calmap.specs.declared.held.Pairs.{Pairs}
+use Rattle.calmap.specs.declared.held.Points.{Points}
+use Rattle.touchcal.specs.Fits.{fitOf}
+use Rattle.touchcal.specs.declared.fitting.FitAnswer.{FitAnswer}
+use Rattle.touchcal.specs.declared.fitting.FitAnswer.the-variants.{Refused}
+
+-- the first n pairs and the first m targets, of arrays that hold 64
+unfoldable pub fitFirst : ℕ → List Pair → ℕ → List Point → FitAnswer
+fitFirst n ps m ts =
+    if longest <? n or longest <? m then Refused Long
+    else fitOf (take n ps) (take m ts)
+
+unfoldable pub fitHeld : Pairs → Points → FitAnswer
+fitHeld a t =
+    if a .long or t .long then Refused Long
+    else fitFirst (a .n) (a .list) (t .n) (t .list)

@@ -1,0 +1,122 @@
+// The fit of a calibration to taps: the solution of the least squares, how far the taps are from it
+// and how far they were without it, and the verdict.
+ghost use mathlib.Core.Path.{_≡_};
+ghost use Rattle.touchcal.specs.Fits.{judgedBy, fitWith, weighed};
+ghost use Rattle.touchcal.specs.Held.{fitFirst, fitHeld};
+use crate::floats;
+use crate::solving;
+use crate::solving::Solved;
+use calmap::Cal;
+use calmap::CheckAnswer;
+use calmap::MAX_TAPS;
+use calmap::Pair;
+use calmap::Pairs;
+use calmap::Points;
+use calmap::ResidAnswer;
+use calmap::Spread;
+use calmap::Tenths;
+use calmap::Verdict;
+use panel::Point;
+use panel::Refusal;
+
+// The largest residual of an accepted fit, in tenths of a pixel.
+const MAX_RESID: u32 = 250;
+
+// A fit and its residuals: mean and max of the taps through the fitted map, before the mean without
+// a calibration.
+pub struct Fit {
+    pub cal: Cal,
+    pub mean: Tenths,
+    pub max: Tenths,
+    pub before: Tenths,
+    pub verdict: Verdict,
+}
+
+pub enum FitAnswer {
+    Answered(Fit),
+    Refused(Refusal),
+}
+
+// The verdict of check, and then that of the largest residual.
+fn judged_by(v: Verdict, max: Tenths) -> Verdict
+    ensures { λ r. ⌜ r ≡ judgedBy v max ⌝ }
+{
+    match v {
+        Verdict::Pass => {
+            if max.0 > MAX_RESID {
+                return Verdict::Resid;
+            }
+            Verdict::Pass
+        }
+        Verdict::Scale => Verdict::Scale,
+        Verdict::Shift => Verdict::Shift,
+        Verdict::Resid => Verdict::Resid,
+    }
+}
+
+// A calibration with its residuals, those without it, and the verdict of check.
+fn fit_with(c: Cal, after: Spread, before: Spread, v: Verdict) -> Fit
+    ensures { λ r. ⌜ r ≡ fitWith c after before v ⌝ }
+{
+    let mean = after.mean;
+    let max = after.max;
+    let before = before.mean;
+    Fit {
+        cal: c,
+        mean,
+        max,
+        before,
+        verdict: judged_by(v, max),
+    }
+}
+
+// The same, where none of them is refused.
+fn weigh(c: Cal, after: ResidAnswer, before: ResidAnswer, check: CheckAnswer) -> FitAnswer
+    ensures { λ r. ⌜ r ≡ weighed c after before check ⌝ }
+{
+    match after {
+        ResidAnswer::Answered(s) => match before {
+            ResidAnswer::Answered(s0) => match check {
+                CheckAnswer::Answered(v) => FitAnswer::Answered(fit_with(c, s, s0, v)),
+                CheckAnswer::Refused(r) => FitAnswer::Refused(r),
+            },
+            ResidAnswer::Refused(r) => FitAnswer::Refused(r),
+        },
+        ResidAnswer::Refused(r) => FitAnswer::Refused(r),
+    }
+}
+
+// The fit of the first n pairs, judged over the first m targets. What check refuses it refuses for
+// any calibration, so that none at all tells whether the targets can be judged.
+pub fn fit_of(pairs: [Pair; MAX_TAPS], n: usize, targets: [Point; MAX_TAPS], m: usize) -> FitAnswer
+    ensures { λ r. ⌜ r ≡ fitFirst n pairs m targets ⌝ }
+{
+    let none = floats::no_cal();
+    if MAX_TAPS < n {
+        return FitAnswer::Refused(Refusal::Long);
+    }
+    if let CheckAnswer::Refused(r) = calmap::check_of(none, targets, m) {
+        return FitAnswer::Refused(r);
+    }
+    let Solved::Is(c) = solving::solve(pairs, n) else {
+        return FitAnswer::Refused(Refusal::NoFit);
+    };
+    let after = calmap::resid_of(c, pairs, n);
+    let before = calmap::resid_of(none, pairs, n);
+    weigh(c, after, before, calmap::check_of(c, targets, m))
+}
+
+// The fit of what is held of lent lists.
+pub fn fit_held(a: Pairs, t: Points) -> FitAnswer
+    ensures { λ r. ⌜ r ≡ fitHeld a t ⌝ }
+{
+    let pairs = a.list;
+    let targets = t.list;
+    if a.long {
+        return FitAnswer::Refused(Refusal::Long);
+    }
+    if t.long {
+        return FitAnswer::Refused(Refusal::Long);
+    }
+    fit_of(pairs, a.n, targets, t.n)
+}
