@@ -1,1 +1,3 @@
--- Laws that more than one proof of this crate cites.
+-- Laws that more than one proof cites.
+pub mod Bytes
+mod Measures

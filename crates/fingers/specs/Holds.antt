@@ -5,7 +5,7 @@
 -- too." "Times: any u64; differences stop at 0": on ℕ they do.
 use Prim.Native.Nat.{ℕ, _-_}
 use mathlib.Core.Bool.{Bool, not}
-use Rattle.panel.specs.Tests.{if_then_else_, _and_, _≤?_, _<?_, _=?_}
+use Rattle.panel.specs.Tests.{if_then_else_, _and_, _≤?_, _=?_}
 use Rattle.panel.specs.declared.points.Point.{Point}
 use Rattle.fingers.specs.Sizes.{longTime, longHold}
 use Rattle.fingers.specs.Fields.{setGrabbed, setLongSent}
@@ -18,13 +18,16 @@ use Rattle.fingers.specs.declared.one.OneStep.{OneStep}
 abbrev pub step : Outcome → One → OneStep
 step out one = record { out = out; one = one }
 
--- the hold time before a drag; hold is on where it is not 0
+-- the hold time before a drag
 unfoldable pub holdOf : Bool → ℕ → ℕ
 holdOf direct grab = if direct then 0 else grab
 
+abbrev pub isOn : ℕ → Bool
+isOn hold = not (hold =? 0)
+
 -- held: for how long the finger has been down
 unfoldable pub grabDue : One → ℕ → ℕ → Bool
-grabDue o hold held = (0 <? hold) and not (o .early) and not (o .grabbed) and (hold ≤? held)
+grabDue o hold held = isOn hold and not (o .early) and not (o .grabbed) and (hold ≤? held)
 
 unfoldable pub longFrom : ℕ → ℕ
 longFrom grab = if grab =? 0 then longTime else longHold

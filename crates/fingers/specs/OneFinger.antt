@@ -14,7 +14,7 @@ use Rattle.panel.specs.declared.axes.AxisLock.{AxisLock}
 use Rattle.panel.specs.declared.axes.AxisLock.the-variants.{Free, On}
 use Rattle.fingers.specs.Sizes.{slop, grabSlop}
 use Rattle.fingers.specs.Fields.{setGrabbed, setAxis}
-use Rattle.fingers.specs.Holds.{step, holdOf, grabDue}
+use Rattle.fingers.specs.Holds.{step, holdOf, isOn, grabDue}
 use Rattle.fingers.specs.declared.gestures.Gesture.the-variants.{Drag, Grab, Move}
 use Rattle.fingers.specs.declared.gestures.Outcome.{Outcome}
 use Rattle.fingers.specs.declared.gestures.Outcome.the-variants.{Quiet, Gives}
@@ -23,7 +23,7 @@ use Rattle.fingers.specs.declared.one.OneStep.{OneStep}
 
 -- "early once over 8 with hold on, not direct, not grabbed": hold is 0, not on, for a direct touch
 unfoldable pub earlyNow : One → ℕ → ℕ → Bool
-earlyNow o hold away = o .early or ((0 <? hold) and not (o .grabbed) and (grabSlop <? away))
+earlyNow o hold away = o .early or (isOn hold and not (o .grabbed) and (grabSlop <? away))
 
 -- the finger is at p, that far away from where it went down
 unfoldable pub tracked : One → ℕ → ℕ → Point → One

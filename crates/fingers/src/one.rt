@@ -2,7 +2,9 @@
 // stands in the tracker's touch.
 ghost use mathlib.Core.Path.{_≡_};
 ghost use Prim.Native.Nat.{max};
+ghost use Rattle.panel.specs.Tests.{_or_, _<?_};
 ghost use Rattle.panel.specs.Distances.{distance};
+ghost use Rattle.fingers.specs.Sizes.{slop};
 ghost use Rattle.fingers.specs.Fields as fields;
 ghost use Rattle.fingers.specs.OneFinger.{earlyNow, tracked, samePoint, moveFrom, axisAt, dragAlong, mayDrag, moving, grabOrMoving, laterReport};
 use crate::gestures::Gesture;
@@ -125,6 +127,12 @@ fn away(p0: Point, p: Point) -> u16
     panel::apart(p0, p) as u16
 }
 
+fn is_moved(was: bool, d: u16) -> bool
+    ensures { λ r. ⌜ r ≡ (was or (slop <? d)) ⌝ }
+{
+    was || SLOP < d
+}
+
 fn is_early(o: One, hold: u16, d: u16) -> bool
     ensures { λ r. ⌜ r ≡ earlyNow o hold d ⌝ }
 {
@@ -144,15 +152,11 @@ fn is_early(o: One, hold: u16, d: u16) -> bool
 fn track(o: One, hold: u16, d: u16, p: Point) -> One
     ensures { λ r. ⌜ r ≡ tracked o hold d p ⌝ }
 {
-    let far = larger(o.far, d);
-    let early = is_early(o, hold, d);
     let mut n = o;
     n.last = p;
-    n.far = far;
-    n.early = early;
-    if SLOP < d {
-        n.moved = true;
-    }
+    n.moved = is_moved(o.moved, d);
+    n.far = larger(o.far, d);
+    n.early = is_early(o, hold, d);
     n
 }
 

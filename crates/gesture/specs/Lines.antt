@@ -1,0 +1,82 @@
+-- "Log line".
+--
+-- "At most one a call; each gesture's letter, argument and point follow this table: Down D, Tap T, LongPress L, Drag M (0
+-- H, 1 V; current point), Grab G, Up U, swipes < > ^ v, Cancel C, MultiSwipeDown W (n), KeyDown K, KeyUp k (code), PinchEnd
+-- E (1, 0), else argument 0. No point means (0,0); the time is the call's. `event` logs no Move or Pinch, and a Drag only if
+-- no axis was locked before. Nothing at a one-finger release: N, its note, p1; a new residual: N, 250, its point. A
+-- `capture` that takes: c, argument raw, time 0, last point."
+--
+-- Letters are their ASCII numbers.
+use Prim.Native.Nat.{ℕ}
+use mathlib.Core.Bool.{Bool, true, false}
+use Rattle.panel.specs.Tests.{if_then_else_, _and_}
+use Rattle.panel.specs.declared.points.Point.{Point}
+use Rattle.panel.specs.declared.axes.Axis.{Axis}
+use Rattle.panel.specs.declared.axes.Axis.the-variants.{H, «V»}
+use Rattle.panel.specs.declared.axes.AxisLock.{AxisLock}
+use Rattle.panel.specs.declared.axes.AxisLock.the-variants.{Free, On}
+use Rattle.fingers.specs.declared.gestures.Gesture.{Gesture}
+use Rattle.fingers.specs.declared.gestures.Gesture.the-variants.{Down, Tap, LongPress, Drag, Grab, Up, SwipeLeft, SwipeRight, SwipeUp, SwipeDown, Cancel, MultiSwipeDown, KeyDown, KeyUp, Move, Pinch, PinchEnd}
+use Rattle.fingers.specs.declared.gestures.Outcome.{Outcome}
+use Rattle.fingers.specs.declared.gestures.Outcome.the-variants.{Quiet, Noted, Gives}
+use Rattle.gesture.specs.Trackers.{origin}
+use Rattle.gesture.specs.declared.lines.Log.{Log}
+use Rattle.gesture.specs.declared.lines.Log.the-variants.{Silent, Logged}
+
+abbrev pub line : ℕ → ℕ → Point → ℕ → Log
+line letter argument p now = Logged (record { letter = letter; argument = argument; p = p; time = now })
+
+unfoldable pub axisNumber : Axis → ℕ
+axisNumber H = 0
+axisNumber «V» = 1
+
+unfoldable pub bit : Bool → ℕ
+bit true = 1
+bit false = 0
+
+-- the table; Move and Pinch are not logged
+unfoldable pub gestureLine : Gesture → ℕ → Log
+gestureLine (Down p) now = line 68 0 p now
+gestureLine (Tap p) now = line 84 0 p now
+gestureLine (LongPress p) now = line 76 0 p now
+gestureLine (Drag start p a) now = line 77 (axisNumber a) p now
+gestureLine (Grab p) now = line 71 0 p now
+gestureLine (Up p) now = line 85 0 p now
+gestureLine SwipeLeft now = line 60 0 origin now
+gestureLine SwipeRight now = line 62 0 origin now
+gestureLine SwipeUp now = line 94 0 origin now
+gestureLine SwipeDown now = line 118 0 origin now
+gestureLine Cancel now = line 67 0 origin now
+gestureLine (MultiSwipeDown n) now = line 87 n origin now
+gestureLine (KeyDown key) now = line 75 key origin now
+gestureLine (KeyUp key) now = line 107 key origin now
+gestureLine (Move prev p) now = Silent
+gestureLine (Pinch a span0 span) now = Silent
+gestureLine (PinchEnd released) now = line 69 (bit released) origin now
+
+unfoldable pub isLocked : AxisLock → Bool
+isLocked Free = false
+isLocked (On a) = true
+
+unfoldable pub isDrag : Gesture → Bool
+isDrag (Drag start p a) = true
+isDrag g = false
+
+-- "a Drag only if no axis was locked before": the axis lock is the one before the call
+unfoldable pub reportGestureLine : Gesture → AxisLock → ℕ → Log
+reportGestureLine g before now = if isDrag g and isLocked before then Silent else gestureLine g now
+
+-- 78 is N
+unfoldable pub reportLine : Outcome → AxisLock → ℕ → Log
+reportLine Quiet before now = Silent
+reportLine (Noted note p) before now = line 78 note p now
+reportLine (Gives g) before now = reportGestureLine g before now
+
+unfoldable pub tickLine : Outcome → ℕ → Log
+tickLine Quiet now = Silent
+tickLine (Noted note p) now = line 78 note p now
+tickLine (Gives g) now = gestureLine g now
+
+-- 99 is c
+unfoldable pub captureLine : Bool → Point → Log
+captureLine raw last = line 99 (bit raw) last 0

@@ -1,0 +1,62 @@
+// The app takes a touch, and its settings. A touch that is taken is no swipe and no tap on release.
+ghost use mathlib.Core.Path.{_≡_};
+ghost use Prim.Native.Nat.{min};
+ghost use Rattle.fingers.specs.Sizes.{grabMost};
+ghost use Rattle.gesture.specs.Captures.{takes, afterCapture, afterCaptureDirect, afterRawNext, afterSetGrab};
+use crate::record;
+use crate::record::Tracker;
+use fingers::GRAB_MOST_MS;
+
+// Whether a capture takes the touch: one is on, and not taken yet.
+pub(crate) fn is_taken(t: Tracker) -> bool
+    ensures { λ r. ⌜ r ≡ takes t ⌝ }
+{
+    let touch = t.touch;
+    let one = t.one;
+    if record::is_active(touch) {
+        return !one.captured;
+    }
+    false
+}
+
+// The raw wish is used up whether a touch is on or not.
+pub(crate) fn after_capture(t: Tracker, taken: bool) -> Tracker
+    requires { ⌜ taken ≡ takes t ⌝ }
+    ensures { λ r. ⌜ r ≡ afterCapture t ⌝ }
+{
+    let one = t.one;
+    if taken {
+        return record::with_one(t, fingers::with_capture(one, t.raw_next), false);
+    }
+    record::with_one(t, one, false)
+}
+
+pub(crate) fn after_capture_direct(t: Tracker) -> Tracker
+    ensures { λ r. ⌜ r ≡ afterCaptureDirect t ⌝ }
+{
+    let touch = t.touch;
+    let one = t.one;
+    if record::is_active(touch) {
+        return record::with_one(t, fingers::with_direct(one), false);
+    }
+    record::with_one(t, one, false)
+}
+
+pub(crate) fn after_raw_next(t: Tracker, on: bool) -> Tracker
+    ensures { λ r. ⌜ r ≡ afterRawNext t on ⌝ }
+{
+    let one = t.one;
+    record::with_one(t, one, on)
+}
+
+fn at_most(ms: u16) -> u16
+    ensures { λ r. ⌜ r ≡ min ms grabMost ⌝ }
+{
+    if ms <= GRAB_MOST_MS { ms } else { GRAB_MOST_MS }
+}
+
+pub(crate) fn after_set_grab(t: Tracker, ms: u16) -> Tracker
+    ensures { λ r. ⌜ r ≡ afterSetGrab t ms ⌝ }
+{
+    record::with_grab_ms(t, at_most(ms))
+}
