@@ -30,10 +30,6 @@ multiStep out multi pair = record { out = out; multi = multi; pair = pair }
 unfoldable pub multiFrom : ℕ → Point → ℕ → Multi
 multiFrom n c now = record { n = n; c0 = c; t0 = now; c1 = c; t1 = now }
 
--- "multi starts, and with two fingers a new pair"
-unfoldable pub pairFor : ℕ → Point → Point → Point → Pairing
-pairFor n p q c = if n =? 2 then Paired (newPair p q c) else Unpaired
-
 -- "multi changes only if n grew"
 unfoldable pub multiGrown : Multi → ℕ → Point → ℕ → Multi
 multiGrown m n c now = if m .n <? n then multiFrom n c now else m

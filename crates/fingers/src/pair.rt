@@ -51,7 +51,8 @@ fn pair_axis(p: Point, q: Point) -> Axis
     Axis::V
 }
 
-pub(crate) fn new_pair(p: Point, q: Point, c: Point) -> Pair
+// The pair that the fingers p and q make, whose centroid is c.
+pub fn new_pair(p: Point, q: Point, c: Point) -> Pair
     ensures { λ r. ⌜ r ≡ newPair p q c ⌝ }
 {
     let axis = pair_axis(p, q);

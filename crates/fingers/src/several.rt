@@ -1,7 +1,7 @@
 // Several fingers: the most seen in the touch, where and when they were first and last that many, and what
 // their end comes to. Fingers lift one by one, so that the last report with all of them is what counts.
 ghost use mathlib.Core.Path.{_≡_};
-ghost use Rattle.fingers.specs.Several.{multiFrom, pairFor, multiGrown, multiSeen, pinchOrSeen, twoFingers, pinchEndOrSeen, threeFingers, farDown, swipedDown, multiRule, isPinch, multiEnd};
+ghost use Rattle.fingers.specs.Several.{multiFrom, multiGrown, multiSeen, pinchOrSeen, twoFingers, pinchEndOrSeen, threeFingers, farDown, swipedDown, multiRule, isPinch, multiEnd};
 use crate::gestures::Gesture;
 use crate::gestures::Outcome;
 use crate::hold;
@@ -42,16 +42,6 @@ pub fn multi_from(n: u8, c: Point, now: u64) -> Multi
         c1: c,
         t1: now,
     }
-}
-
-// The pair that a touch of several fingers starts with.
-pub fn pair_for(n: u8, p: Point, q: Point, c: Point) -> Pairing
-    ensures { λ r. ⌜ r ≡ pairFor n p q c ⌝ }
-{
-    if n == 2 {
-        return Pairing::Paired(pair::new_pair(p, q, c));
-    }
-    Pairing::Unpaired
 }
 
 // More fingers than before: the gesture restarts here.

@@ -1,1 +1,4 @@
--- Laws that more than one proof of this crate cites.
+-- What the crates above may cite. `Counts`, `Rule` and `Table` serve this crate's own proofs.
+mod Counts
+pub mod Rule
+mod Table

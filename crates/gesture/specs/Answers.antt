@@ -4,7 +4,7 @@
 -- refusal carries no other value (zeros, no gesture, no log line) and alters nothing." "Points in use: `p` for count 1; the
 -- first n of `pts` for 2 to 5. A count over 5 means 5. For count 0 none."
 use Prim.Native.Nat.{ℕ}
-use mathlib.Core.Bool.{Bool}
+use mathlib.Core.Bool.{Bool, false}
 use mathlib.Core.List.{List, [], _∷_}
 use Rattle.panel.specs.Tests.{if_then_else_, _=?_}
 use Rattle.panel.specs.Points.{allOnPanel, firstPoints}
@@ -20,7 +20,7 @@ use Rattle.gesture.specs.States.{stateRule}
 use Rattle.gesture.specs.Reports.{reportStep}
 use Rattle.gesture.specs.Ticks.{tickStep}
 use Rattle.gesture.specs.Lines.{reportLine, tickLine, captureLine}
-use Rattle.gesture.specs.Captures.{takes, afterCapture, afterCaptureDirect, afterRawNext, afterSetGrab}
+use Rattle.gesture.specs.Captures.{takes, taken, wished, afterCaptureDirect, afterSetGrab}
 use Rattle.gesture.specs.declared.record.Tracker.{Tracker}
 use Rattle.gesture.specs.declared.record.Step.{Step}
 use Rattle.gesture.specs.declared.lines.Log.{Log}
@@ -65,7 +65,9 @@ tickOf t now = if stateRule t then ticked (tickStep t now) now else refused Stat
 -- The captures.
 
 unfoldable pub captured : Tracker → Answer
-captured t = answered Nothing (if takes t then captureLine (t .«raw_next») (t .one .last) else Silent) (afterCapture t)
+captured t =
+    if takes t then answered Nothing (captureLine (t .«raw_next») (t .one .last)) (taken t)
+    else answered Nothing Silent (wished t false)
 
 unfoldable pub captureOf : Tracker → Answer
 captureOf t = if stateRule t then captured t else refused State t
@@ -76,7 +78,7 @@ captureDirectOf t = if stateRule t then answered Nothing Silent (afterCaptureDir
 -- The settings.
 
 unfoldable pub rawNextOf : Tracker → Bool → Answer
-rawNextOf t on = if stateRule t then answered Nothing Silent (afterRawNext t on) else refused State t
+rawNextOf t on = if stateRule t then answered Nothing Silent (wished t on) else refused State t
 
 unfoldable pub setGrabOf : Tracker → ℕ → Answer
 setGrabOf t ms = if stateRule t then answered Nothing Silent (afterSetGrab t ms) else refused State t

@@ -14,14 +14,16 @@ use Rattle.gesture.specs.declared.record.Tracker.{Tracker}
 unfoldable pub takes : Tracker → Bool
 takes t = isActive (t .touch) and not (t .one .captured)
 
-unfoldable pub afterCapture : Tracker → Tracker
-afterCapture t = if takes t then setOne t (setCaptured (t .one) (t .«raw_next»)) false else setOne t (t .one) false
+-- the touch is captured, raw as wished, and the wish is cleared
+unfoldable pub taken : Tracker → Tracker
+taken t = setOne t (setCaptured (t .one) (t .«raw_next»)) false
+
+-- the raw wish alone
+unfoldable pub wished : Tracker → Bool → Tracker
+wished t on = setOne t (t .one) on
 
 unfoldable pub afterCaptureDirect : Tracker → Tracker
-afterCaptureDirect t = if isActive (t .touch) then setOne t (setDirect (t .one)) false else setOne t (t .one) false
-
-unfoldable pub afterRawNext : Tracker → Bool → Tracker
-afterRawNext t on = setOne t (t .one) on
+afterCaptureDirect t = if isActive (t .touch) then setOne t (setDirect (t .one)) false else wished t false
 
 unfoldable pub afterSetGrab : Tracker → ℕ → Tracker
 afterSetGrab t ms = setGrab t (min ms grabMost)

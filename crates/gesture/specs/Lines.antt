@@ -59,8 +59,23 @@ isLocked Free = false
 isLocked (On a) = true
 
 unfoldable pub isDrag : Gesture → Bool
+isDrag (Down p) = false
+isDrag (Tap p) = false
+isDrag (LongPress p) = false
 isDrag (Drag start p a) = true
-isDrag g = false
+isDrag (Grab p) = false
+isDrag (Up p) = false
+isDrag SwipeLeft = false
+isDrag SwipeRight = false
+isDrag SwipeUp = false
+isDrag SwipeDown = false
+isDrag Cancel = false
+isDrag (MultiSwipeDown n) = false
+isDrag (KeyDown key) = false
+isDrag (KeyUp key) = false
+isDrag (Move prev p) = false
+isDrag (Pinch a span0 span) = false
+isDrag (PinchEnd released) = false
 
 -- "a Drag only if no axis was locked before": the axis lock is the one before the call
 unfoldable pub reportGestureLine : Gesture → AxisLock → ℕ → Log

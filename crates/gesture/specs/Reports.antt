@@ -24,7 +24,8 @@ use Rattle.fingers.specs.Keys.{keyStep}
 use Rattle.fingers.specs.Fields.{reset}
 use Rattle.fingers.specs.OneFinger.{laterReport}
 use Rattle.fingers.specs.Releases.{releaseOf}
-use Rattle.fingers.specs.Several.{multiFrom, pairFor, twoFingers, threeFingers, multiEnd}
+use Rattle.fingers.specs.Pairs.{newPair}
+use Rattle.fingers.specs.Several.{multiFrom, twoFingers, threeFingers, multiEnd}
 use Rattle.fingers.specs.declared.gestures.Gesture.the-variants.{Cancel}
 use Rattle.fingers.specs.declared.gestures.Gesture.the-variants as gesture
 use Rattle.fingers.specs.declared.gestures.Outcome.{Outcome}
@@ -32,6 +33,9 @@ use Rattle.fingers.specs.declared.gestures.Outcome.the-variants.{Quiet, Noted, 
 use Rattle.fingers.specs.declared.keys.KeyStep.{KeyStep}
 use Rattle.fingers.specs.declared.keys.KeyStep.the-variants.{Same, Flipped}
 use Rattle.fingers.specs.declared.one.OneStep.{OneStep}
+use Rattle.fingers.specs.declared.pair.Pairing.{Pairing}
+use Rattle.fingers.specs.declared.pair.Pairing.the-variants.{Unpaired, Paired}
+use Rattle.fingers.specs.declared.several.Multi as several
 use Rattle.fingers.specs.declared.several.MultiStep.{MultiStep}
 use Rattle.gesture.specs.Trackers.{step, origin, setTouch, setKeys}
 use Rattle.gesture.specs.declared.record.Touch.{Touch}
@@ -71,38 +75,52 @@ oneFinger Residual t p now = step Quiet t
 oneFinger (Multi m pair) t p now = step Quiet t
 oneFinger (Down start since) t p now = goesOn (laterReport (t .one) start since p now (t .«grab_ms»)) (Down start since) t
 
--- Two or more: n fingers, of which p and q are the first two, with the centroid c.
+-- Two or more: p and q are the first two of the points, c is the centroid.
 
-unfoldable pub multiStarts : Outcome → Tracker → ℕ → Point → Point → Point → ℕ → Step
-multiStarts out t n p q c now = step out (setTouch t (Multi (multiFrom n c now) (pairFor n p q c)) (t .one) (t .«multi_end»))
+unfoldable pub multiStarts : Outcome → Tracker → several.Multi → Pairing → Step
+multiStarts out t multi pair = step out (setTouch t (Multi multi pair) (t .one) (t .«multi_end»))
 
 -- a touch of several goes on
 unfoldable pub multiGoesOn : MultiStep → Tracker → Step
 multiGoesOn s t = step (s .out) (setTouch t (Multi (s .multi) (s .pair)) (t .one) (t .«multi_end»))
 
+unfoldable pub twoStart : Outcome → Tracker → Point → Point → Point → ℕ → Step
+twoStart out t p q c now = multiStarts out t (multiFrom 2 c now) (Paired (newPair p q c))
+
 unfoldable pub two : Touch → Tracker → Point → Point → Point → ℕ → Step
-two Idle t p q c now = multiStarts Quiet t 2 p q c now
-two Residual t p q c now = multiStarts Quiet t 2 p q c now
-two (Down start since) t p q c now = multiStarts (Gives Cancel) t 2 p q c now
+two Idle t p q c now = twoStart Quiet t p q c now
+two Residual t p q c now = twoStart Quiet t p q c now
+two (Down start since) t p q c now = twoStart (Gives Cancel) t p q c now
 two (Multi m pair) t p q c now = multiGoesOn (twoFingers pair m p q c now) t
 
-unfoldable pub more : Touch → Tracker → ℕ → Point → Point → Point → ℕ → Step
-more Idle t n p q c now = multiStarts Quiet t n p q c now
-more Residual t n p q c now = multiStarts Quiet t n p q c now
-more (Down start since) t n p q c now = multiStarts (Gives Cancel) t n p q c now
-more (Multi m pair) t n p q c now = multiGoesOn (threeFingers pair m n c now) t
+unfoldable pub moreStart : Outcome → Tracker → ℕ → Point → ℕ → Step
+moreStart out t n c now = multiStarts out t (multiFrom n c now) Unpaired
 
--- The report.
+unfoldable pub more : Touch → Tracker → ℕ → Point → ℕ → Step
+more Idle t n c now = moreStart Quiet t n c now
+more Residual t n c now = moreStart Quiet t n c now
+more (Down start since) t n c now = moreStart (Gives Cancel) t n c now
+more (Multi m pair) t n c now = multiGoesOn (threeFingers pair m n c now) t
+
+-- The fingers, by their count.
 
 abbrev pub finger : ℕ → List Point → Point
 finger k pts = getD pts k origin
+
+unfoldable pub twoOf : Tracker → List Point → ℕ → Step
+twoOf t pts now = two (t .touch) t (finger 0 pts) (finger 1 pts) (middle (firstPoints 2 pts)) now
+
+unfoldable pub moreOf : Tracker → ℕ → List Point → ℕ → Step
+moreOf t n pts now = more (t .touch) t n (middle (firstPoints n pts)) now
 
 unfoldable pub fingersOf : Tracker → Event → ℕ → Step
 fingersOf t ev now =
     if ev .points =? 0 then allUp (t .touch) t now
     else if ev .points =? 1 then oneFinger (t .touch) t (ev .p) now
-    else if ev .points =? 2 then two (t .touch) t (finger 0 (ev .pts)) (finger 1 (ev .pts)) (middle (firstPoints (ev .points) (ev .pts))) now
-    else more (t .touch) t (fingers (ev .points)) (finger 0 (ev .pts)) (finger 1 (ev .pts)) (middle (firstPoints (ev .points) (ev .pts))) now
+    else if ev .points =? 2 then twoOf t (ev .pts) now
+    else moreOf t (fingers (ev .points)) (ev .pts) now
+
+-- The report.
 
 -- "the call ends, fingers unread"
 unfoldable pub keysThenFingers : KeyStep → Tracker → Event → ℕ → Step

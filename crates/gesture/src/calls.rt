@@ -76,17 +76,17 @@ pub fn tick(t: Tracker, now: u64) -> Answer
     answers::refused(Refusal::State, t)
 }
 
+// The raw wish is used up whether the touch is taken or not.
 fn capture_answer(t: Tracker) -> Answer
     ensures { λ r. ⌜ r ≡ captured t ⌝ }
 {
-    let one = t.one;
-    let last = one.last;
-    let taken = captures::is_taken(t);
-    let after = captures::after_capture(t, taken);
-    if taken {
-        return answers::answered(Given::Nothing, lines::capture_line(t.raw_next, last), after);
+    if captures::is_takeable(t) {
+        let one = t.one;
+        let last = one.last;
+        let log = lines::capture_line(t.raw_next, last);
+        return answers::answered(Given::Nothing, log, captures::with_taken(t));
     }
-    answers::answered(Given::Nothing, Log::Silent, after)
+    answers::answered(Given::Nothing, Log::Silent, captures::with_wish(t, false))
 }
 
 // The app took the current touch, its Down or its Drag: on release it is no swipe and no tap.
@@ -114,7 +114,7 @@ pub fn raw_next(t: Tracker, on: bool) -> Answer
     ensures { λ r. ⌜ r ≡ rawNextOf t on ⌝ }
 {
     if states::state_ok(t) {
-        return answers::answered(Given::Nothing, Log::Silent, captures::after_raw_next(t, on));
+        return answers::answered(Given::Nothing, Log::Silent, captures::with_wish(t, on));
     }
     answers::refused(Refusal::State, t)
 }

@@ -2,13 +2,13 @@
 ghost use mathlib.Core.Path.{_≡_};
 ghost use Prim.Native.Nat.{min};
 ghost use Rattle.fingers.specs.Sizes.{grabMost};
-ghost use Rattle.gesture.specs.Captures.{takes, afterCapture, afterCaptureDirect, afterRawNext, afterSetGrab};
+ghost use Rattle.gesture.specs.Captures.{takes, taken, wished, afterCaptureDirect, afterSetGrab};
 use crate::record;
 use crate::record::Tracker;
 use fingers::GRAB_MOST_MS;
 
 // Whether a capture takes the touch: one is on, and not taken yet.
-pub(crate) fn is_taken(t: Tracker) -> bool
+pub(crate) fn is_takeable(t: Tracker) -> bool
     ensures { λ r. ⌜ r ≡ takes t ⌝ }
 {
     let touch = t.touch;
@@ -19,34 +19,30 @@ pub(crate) fn is_taken(t: Tracker) -> bool
     false
 }
 
-// The raw wish is used up whether a touch is on or not.
-pub(crate) fn after_capture(t: Tracker, taken: bool) -> Tracker
-    requires { ⌜ taken ≡ takes t ⌝ }
-    ensures { λ r. ⌜ r ≡ afterCapture t ⌝ }
+// The touch is the app's, for raw moves if they were wished for.
+pub(crate) fn with_taken(t: Tracker) -> Tracker
+    ensures { λ r. ⌜ r ≡ taken t ⌝ }
 {
     let one = t.one;
-    if taken {
-        return record::with_one(t, fingers::with_capture(one, t.raw_next), false);
-    }
-    record::with_one(t, one, false)
+    record::with_one(t, fingers::with_capture(one, t.raw_next), false)
+}
+
+pub(crate) fn with_wish(t: Tracker, on: bool) -> Tracker
+    ensures { λ r. ⌜ r ≡ wished t on ⌝ }
+{
+    let one = t.one;
+    record::with_one(t, one, on)
 }
 
 pub(crate) fn after_capture_direct(t: Tracker) -> Tracker
     ensures { λ r. ⌜ r ≡ afterCaptureDirect t ⌝ }
 {
     let touch = t.touch;
-    let one = t.one;
     if record::is_active(touch) {
+        let one = t.one;
         return record::with_one(t, fingers::with_direct(one), false);
     }
-    record::with_one(t, one, false)
-}
-
-pub(crate) fn after_raw_next(t: Tracker, on: bool) -> Tracker
-    ensures { λ r. ⌜ r ≡ afterRawNext t on ⌝ }
-{
-    let one = t.one;
-    record::with_one(t, one, on)
+    with_wish(t, false)
 }
 
 fn at_most(ms: u16) -> u16

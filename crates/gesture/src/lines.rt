@@ -32,7 +32,7 @@ struct Coded {
 // The code number of a Drag.
 const DRAG: u8 = 3;
 
-fn line(letter: u8, argument: u8, p: Point, now: u64) -> Log
+fn logged(letter: u8, argument: u8, p: Point, now: u64) -> Log
     ensures { λ r. ⌜ r ≡ rule.line letter argument p now ⌝ }
 {
     Log::Logged(Line {
@@ -96,21 +96,21 @@ fn line_by_code(code: u8, n: u8, p: Point, now: u64) -> Log
 {
     let z = Point { x: 0, y: 0 };
     match code {
-        0 => line(b'D', 0, p, now),
-        1 => line(b'T', 0, p, now),
-        2 => line(b'L', 0, p, now),
-        3 => line(b'M', n, p, now),
-        4 => line(b'G', 0, p, now),
-        5 => line(b'U', 0, p, now),
-        6 => line(b'<', 0, z, now),
-        7 => line(b'>', 0, z, now),
-        8 => line(b'^', 0, z, now),
-        9 => line(b'v', 0, z, now),
-        10 => line(b'C', 0, z, now),
-        11 => line(b'W', n, z, now),
-        12 => line(b'K', n, z, now),
-        13 => line(b'k', n, z, now),
-        16 => line(b'E', n, z, now),
+        0 => logged(b'D', 0, p, now),
+        1 => logged(b'T', 0, p, now),
+        2 => logged(b'L', 0, p, now),
+        3 => logged(b'M', n, p, now),
+        4 => logged(b'G', 0, p, now),
+        5 => logged(b'U', 0, p, now),
+        6 => logged(b'<', 0, z, now),
+        7 => logged(b'>', 0, z, now),
+        8 => logged(b'^', 0, z, now),
+        9 => logged(b'v', 0, z, now),
+        10 => logged(b'C', 0, z, now),
+        11 => logged(b'W', n, z, now),
+        12 => logged(b'K', n, z, now),
+        13 => logged(b'k', n, z, now),
+        16 => logged(b'E', n, z, now),
         _ => Log::Silent,
     }
 }
@@ -159,7 +159,7 @@ pub(crate) fn report_line(out: Outcome, before: AxisLock, now: u64) -> Log
 {
     match out {
         Outcome::Quiet => Log::Silent,
-        Outcome::Noted(note, p) => line(b'N', note, p, now),
+        Outcome::Noted(note, p) => logged(b'N', note, p, now),
         Outcome::Gives(g) => report_gesture_line(g, before, now),
     }
 }
@@ -169,7 +169,7 @@ pub(crate) fn tick_line(out: Outcome, now: u64) -> Log
 {
     match out {
         Outcome::Quiet => Log::Silent,
-        Outcome::Noted(note, p) => line(b'N', note, p, now),
+        Outcome::Noted(note, p) => logged(b'N', note, p, now),
         Outcome::Gives(g) => log_gesture(g, now),
     }
 }
@@ -178,5 +178,5 @@ pub(crate) fn tick_line(out: Outcome, now: u64) -> Log
 pub(crate) fn capture_line(raw: bool, last: Point) -> Log
     ensures { λ r. ⌜ r ≡ captureLine raw last ⌝ }
 {
-    line(b'c', bit(raw), last, 0)
+    logged(b'c', bit(raw), last, 0)
 }

@@ -1,6 +1,6 @@
 // A report: one key change if there is any, else the fingers, by their count.
 ghost use mathlib.Core.Path.{_≡_};
-ghost use Rattle.gesture.specs.Reports.{allUp, isLastFinger, touchDown, goesOn, oneFinger, multiStarts, multiGoesOn, two, more, fingersOf, keysThenFingers, reportStep};
+ghost use Rattle.gesture.specs.Reports.{allUp, isLastFinger, touchDown, goesOn, oneFinger, multiStarts, multiGoesOn, twoStart, two, twoOf, moreStart, more, moreOf, fingersOf, keysThenFingers, reportStep};
 use crate::record;
 use crate::record::MultiEnd;
 use crate::record::Step;
@@ -9,11 +9,14 @@ use crate::record::Tracker;
 use fingers::Gesture;
 use fingers::KeyStep;
 use fingers::LIFT_GAP_MS;
+use fingers::Multi;
 use fingers::MultiStep;
 use fingers::NOTE_RESIDUAL;
 use fingers::OneStep;
 use fingers::Outcome;
+use fingers::Pairing;
 use panel::Event;
+use panel::MAX_POINTS;
 use panel::Point;
 
 // No finger any more.
@@ -103,13 +106,11 @@ fn one_finger(touch: Touch, t: Tracker, p: Point, now: u64) -> Step
     }
 }
 
-fn multi_starts(out: Outcome, t: Tracker, n: u8, p: Point, q: Point, c: Point, now: u64) -> Step
-    ensures { λ r. ⌜ r ≡ multiStarts out t n p q c now ⌝ }
+fn multi_starts(out: Outcome, t: Tracker, m: Multi, pr: Pairing) -> Step
+    ensures { λ r. ⌜ r ≡ multiStarts out t m pr ⌝ }
 {
     let one = t.one;
     let end = t.multi_end;
-    let m = fingers::multi_from(n, c, now);
-    let pr = fingers::pair_for(n, p, q, c);
     Step {
         out,
         tracker: record::with_touch(t, Touch::Multi(m, pr), one, end),
@@ -130,32 +131,65 @@ fn multi_goes_on(s: MultiStep, t: Tracker) -> Step
     }
 }
 
+fn two_start(out: Outcome, t: Tracker, p: Point, q: Point, c: Point, now: u64) -> Step
+    ensures { λ r. ⌜ r ≡ twoStart out t p q c now ⌝ }
+{
+    multi_starts(
+        out,
+        t,
+        fingers::multi_from(2, c, now),
+        Pairing::Paired(fingers::new_pair(p, q, c)),
+    )
+}
+
 // Two fingers. The last finger of a multi touch that gains one again is a new touch of several.
-fn two_fingers(touch: Touch, t: Tracker, p: Point, q: Point, c: Point, now: u64) -> Step
+fn two_at(touch: Touch, t: Tracker, p: Point, q: Point, c: Point, now: u64) -> Step
     ensures { λ r. ⌜ r ≡ two touch t p q c now ⌝ }
 {
     match touch {
-        Touch::Idle => multi_starts(Outcome::Quiet, t, 2, p, q, c, now),
-        Touch::Residual => multi_starts(Outcome::Quiet, t, 2, p, q, c, now),
-        Touch::Down(_, _) => multi_starts(Outcome::Gives(Gesture::Cancel), t, 2, p, q, c, now),
+        Touch::Idle => two_start(Outcome::Quiet, t, p, q, c, now),
+        Touch::Residual => two_start(Outcome::Quiet, t, p, q, c, now),
+        Touch::Down(_, _) => two_start(Outcome::Gives(Gesture::Cancel), t, p, q, c, now),
         Touch::Multi(m, pr) => multi_goes_on(fingers::two_fingers(pr, m, p, q, c, now), t),
     }
 }
 
+fn two_of(t: Tracker, pts: [Point; MAX_POINTS], now: u64) -> Step
+    ensures { λ r. ⌜ r ≡ twoOf t pts now ⌝ }
+{
+    let touch = t.touch;
+    let p = pts[0];
+    let q = pts[1];
+    two_at(touch, t, p, q, panel::middle_of(2, pts), now)
+}
+
+fn more_start(out: Outcome, t: Tracker, n: u8, c: Point, now: u64) -> Step
+    ensures { λ r. ⌜ r ≡ moreStart out t n c now ⌝ }
+{
+    multi_starts(out, t, fingers::multi_from(n, c, now), Pairing::Unpaired)
+}
+
 // Three fingers or more.
-fn more_fingers(touch: Touch, t: Tracker, n: u8, p: Point, q: Point, c: Point, now: u64) -> Step
-    ensures { λ r. ⌜ r ≡ more touch t n p q c now ⌝ }
+fn more_at(touch: Touch, t: Tracker, n: u8, c: Point, now: u64) -> Step
+    ensures { λ r. ⌜ r ≡ more touch t n c now ⌝ }
 {
     match touch {
-        Touch::Idle => multi_starts(Outcome::Quiet, t, n, p, q, c, now),
-        Touch::Residual => multi_starts(Outcome::Quiet, t, n, p, q, c, now),
-        Touch::Down(_, _) => multi_starts(Outcome::Gives(Gesture::Cancel), t, n, p, q, c, now),
+        Touch::Idle => more_start(Outcome::Quiet, t, n, c, now),
+        Touch::Residual => more_start(Outcome::Quiet, t, n, c, now),
+        Touch::Down(_, _) => more_start(Outcome::Gives(Gesture::Cancel), t, n, c, now),
         Touch::Multi(m, pr) => multi_goes_on(fingers::three_fingers(pr, m, n, c, now), t),
     }
 }
 
+fn more_of(t: Tracker, n: u8, pts: [Point; MAX_POINTS], now: u64) -> Step
+    ensures { λ r. ⌜ r ≡ moreOf t n pts now ⌝ }
+{
+    let touch = t.touch;
+    more_at(touch, t, n, panel::middle_of(n, pts), now)
+}
+
 // The fingers of a report, by their count; a count over five means five.
-fn fingers_of(t: Tracker, ev: Event, now: u64) -> Step
+fn by_count(t: Tracker, ev: Event, now: u64) -> Step
     ensures { λ r. ⌜ r ≡ fingersOf t ev now ⌝ }
 {
     let touch = t.touch;
@@ -165,9 +199,9 @@ fn fingers_of(t: Tracker, ev: Event, now: u64) -> Step
     match n {
         0 => all_up(touch, t, now),
         1 => one_finger(touch, t, p, now),
-        2 => two_fingers(touch, t, pts[0], pts[1], panel::middle_of(n, pts), now),
-        3..=5 => more_fingers(touch, t, n, pts[0], pts[1], panel::middle_of(n, pts), now),
-        _ => more_fingers(touch, t, 5, pts[0], pts[1], panel::middle_of(n, pts), now),
+        2 => two_of(t, pts, now),
+        3..=5 => more_of(t, n, pts, now),
+        _ => more_of(t, MAX_POINTS as u8, pts, now),
     }
 }
 
@@ -179,7 +213,7 @@ fn keys_then_fingers(k: KeyStep, t: Tracker, ev: Event, now: u64) -> Step
             out: Outcome::Gives(g),
             tracker: record::with_keys(t, keys, ev.keys),
         },
-        KeyStep::Same => fingers_of(record::with_keys(t, t.keys, ev.keys), ev, now),
+        KeyStep::Same => by_count(record::with_keys(t, t.keys, ev.keys), ev, now),
     }
 }
 

@@ -1,0 +1,54 @@
+use Rattle.panel.proofs.Follow.{follow}
+use Rattle.gesture.specs.Ticks.{stillDown}
+use borrow.Author.Needs.{needs}
+use Rattle.gesture.proofs.ticks.still_down.Statement.{statement}
+use Rattle.gesture.proofs.ticks.still_down.Tie as tie
+
+enum-told : tie.Need-enum-told
+enum-told c = search needs
+
+enum-told-2 : tie.Need-enum-told-2
+enum-told-2 c = search needs
+
+enum-told-3 : tie.Need-enum-told-3
+enum-told-3 c = search needs
+
+enum-known-touch : tie.Need-enum-known-touch
+enum-known-touch c = search needs
+
+held-still-requires : tie.Need-held-still-requires
+held-still-requires c κs = search needs
+
+goes-on-requires : tie.Need-goes-on-requires
+goes-on-requires c κs = search needs
+
+returns : tie.Need-returns
+unfolding stillDown
+returns c = search (follow, c .enum-told .given .1)
+
+returns-2 : tie.Need-returns-2
+unfolding stillDown
+returns-2 c = search (follow, c .enum-told2 .given .1)
+
+returns-3 : tie.Need-returns-3
+unfolding stillDown
+returns-3 c = search (follow, c .enum-told3 .given .1)
+
+returns-4 : tie.Need-returns-4
+unfolding stillDown
+returns-4 c = search (follow, ← c .goes-on .ensures, ← c .before .held-still .ensures, c .before .before .before .before .touch .given .1)
+
+pub still-down-spec : {M : Type 1} → statement M
+still-down-spec =
+    tie.close
+    (tie.spec
+    enum-told
+    enum-told-2
+    enum-told-3
+    enum-known-touch
+    held-still-requires
+    goes-on-requires
+    returns
+    returns-2
+    returns-3
+    returns-4)
