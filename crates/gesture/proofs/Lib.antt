@@ -1,4 +1,6 @@
--- What the crates above may cite. `Counts`, `Rule` and `Table` serve this crate's own proofs.
-mod Counts
+-- What the crates above may cite: `Keeps`, that every call keeps the state rule. The other modules serve this crate's own
+-- proofs.
 pub mod Rule
+pub mod Keeps
+mod Counts
 mod Table

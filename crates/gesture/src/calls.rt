@@ -104,7 +104,11 @@ pub fn capture_direct(t: Tracker) -> Answer
     ensures { λ r. ⌜ r ≡ captureDirectOf t ⌝ }
 {
     if states::state_ok(t) {
-        return answers::answered(Given::Nothing, Log::Silent, captures::after_capture_direct(t));
+        return answers::answered(
+            Given::Nothing,
+            Log::Silent,
+            captures::after_capture_direct(t),
+        );
     }
     answers::refused(Refusal::State, t)
 }
