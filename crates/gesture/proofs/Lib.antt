@@ -2,5 +2,7 @@
 -- proofs.
 pub mod Rule
 pub mod Keeps
+mod Facts
+mod Steps
 mod Counts
 mod Table
