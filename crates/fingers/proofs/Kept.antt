@@ -138,7 +138,7 @@ not-fine r h = (h .0, h .1, h .2, h .3, omega arith)
 abbrev pub FineMulti : Multi → Type 0
 FineMulti m = (2 ≤ m .n) × (m .n ≤ maxPoints) × (onPanel (m .c0) ≡ true) × (onPanel (m .c1) ≡ true)
 
-abbrev FineMultiStep : MultiStep → Type 0
+abbrev pub FineMultiStep : MultiStep → Type 0
 FineMultiStep s = FineMulti (s .multi) × FinePairing (s .pair)
 
 module _ (n : ℕ) (c : Point) (now : ℕ) (least : 2 ≤ n) (most : n ≤ maxPoints) (on : onPanel c ≡ true) where

@@ -15,9 +15,9 @@ use Rattle.fingers.specs.declared.keys.KeyStep.{KeyStep}
 use Rattle.fingers.specs.declared.keys.KeyStep.the-variants.{Same, Flipped}
 use Rattle.fingers.specs.declared.gestures.Outcome.{Outcome}
 use Rattle.fingers.specs.declared.several.MultiStep.{MultiStep}
-use Rattle.fingers.proofs.Kept.{if-all, FinePairing, FineMulti, reset-fine, later-fine, still-fine, new-fine, from-fine, two-fine, three-fine}
+use Rattle.fingers.proofs.Kept.{if-all, FinePairing, FineMulti, FineMultiStep, reset-fine, later-fine, still-fine, new-fine, from-fine, two-fine, three-fine}
 use Rattle.gesture.specs.Trackers.{origin, setTouch, setKeys}
-use Rattle.gesture.specs.Reports.{finger, allUp, touchDown, goesOn, oneFinger, multiStarts, multiGoesOn, twoStart, two, twoOf, moreStart, more, moreOf, fingersOf, keysThenFingers, reportStep}
+use Rattle.gesture.specs.Reports.{finger, allUp, residualTouch, newTouch, touchDown, goesOn, oneFinger, twoStart, two, twoOf, moreStart, more, moreOf, several, fingersOf, keysThenFingers, reportStep}
 use Rattle.gesture.specs.Ticks.{stillDown, keysThenHold, tickStep}
 use Rattle.gesture.specs.Answers.{pointsInUse}
 use Rattle.gesture.specs.declared.record.Touch.{Touch}
@@ -36,15 +36,12 @@ FineAfter s = Fine (s .tracker)
 
 -- A report.
 
-up-fine : (x : Touch) (t : Tracker) (now : ℕ) → Fine t → FineAfter (allUp x t now)
+up-fine : (t : Tracker) (now : ℕ) → Fine t → FineAfter (allUp t now)
 unfolding allUp setTouch
-up-fine Idle t now f = f
-up-fine Residual t now f = (tt, f .1, f .2)
-up-fine (Multi m pair) t now f = (tt, f .1, f .2)
-up-fine (Down start since) t now f = (tt, f .1, f .2)
+up-fine t now f = (tt, f .1, f .2)
 
 down-fine : (t : Tracker) (p : Point) (now : ℕ) → Fine t → onPanel p ≡ true → FineAfter (touchDown t p now)
-unfolding touchDown setTouch
+unfolding touchDown residualTouch newTouch setTouch
 down-fine t p now f on = if-all FineAfter _ (tt, f .1, f .2) (on, reset-fine p on, f .2)
 
 one-fine : (x : Touch) (t : Tracker) (p : Point) (now : ℕ) → FineTouch x → Fine t → onPanel p ≡ true → FineAfter (oneFinger x t p now)
@@ -54,33 +51,33 @@ one-fine Residual t p now d f on = f
 one-fine (Multi m pair) t p now d f on = f
 one-fine (Down start since) t p now d f on = (d, later-fine (t .one) start since p now (t .«grab_ms») (f .1) d on, f .2)
 
-goes-on-fine : (s : MultiStep) (t : Tracker) → FineMulti (s .multi) × FinePairing (s .pair) → Fine t → FineAfter (multiGoesOn s t)
-unfolding multiGoesOn setTouch
-goes-on-fine s t h f = (h, f .1, f .2)
+several-fine : (s : MultiStep) (t : Tracker) → FineMulti (s .multi) × FinePairing (s .pair) → Fine t → FineAfter (several s t)
+unfolding several setTouch
+several-fine s t h f = (h, f .1, f .2)
 
-module _ (t : Tracker) (p q c : Point) (now : ℕ) (f : Fine t) (hp : onPanel p ≡ true) (hq : onPanel q ≡ true) (hc : onPanel c ≡ true) where
-  two-start-fine : (out : Outcome) → FineAfter (twoStart out t p q c now)
-  unfolding twoStart multiStarts setTouch
-  two-start-fine out = ((from-fine 2 c now (omega arith) (omega arith) hc, new-fine p q c hp hq hc), f .1, f .2)
+module _ (p q c : Point) (now : ℕ) (hp : onPanel p ≡ true) (hq : onPanel q ≡ true) (hc : onPanel c ≡ true) where
+  two-start-fine : (out : Outcome) → FineMultiStep (twoStart out p q c now)
+  unfolding twoStart
+  two-start-fine out = (from-fine 2 c now (omega arith) (omega arith) hc, new-fine p q c hp hq hc)
 
-  two-touch-fine : (x : Touch) → FineTouch x → FineAfter (two x t p q c now)
+  two-touch-fine : (x : Touch) → FineTouch x → FineMultiStep (two x p q c now)
   unfolding two
   two-touch-fine Idle d = two-start-fine _
   two-touch-fine Residual d = two-start-fine _
   two-touch-fine (Down start since) d = two-start-fine _
-  two-touch-fine (Multi m pair) d = goes-on-fine _ t (two-fine p q c now hp hq hc pair m (d .0) (d .1)) f
+  two-touch-fine (Multi m pair) d = two-fine p q c now hp hq hc pair m (d .0) (d .1)
 
-module _ (t : Tracker) (n : ℕ) (c : Point) (now : ℕ) (f : Fine t) (least : 2 ≤ n) (most : n ≤ maxPoints) (hc : onPanel c ≡ true) where
-  more-start-fine : (out : Outcome) → FineAfter (moreStart out t n c now)
-  unfolding moreStart multiStarts setTouch
-  more-start-fine out = ((from-fine n c now least most hc, tt), f .1, f .2)
+module _ (n : ℕ) (c : Point) (now : ℕ) (least : 2 ≤ n) (most : n ≤ maxPoints) (hc : onPanel c ≡ true) where
+  more-start-fine : (out : Outcome) → FineMultiStep (moreStart out n c now)
+  unfolding moreStart
+  more-start-fine out = (from-fine n c now least most hc, tt)
 
-  more-touch-fine : (x : Touch) → FineTouch x → FineAfter (more x t n c now)
+  more-touch-fine : (x : Touch) → FineTouch x → FineMultiStep (more x n c now)
   unfolding more
   more-touch-fine Idle d = more-start-fine _
   more-touch-fine Residual d = more-start-fine _
   more-touch-fine (Down start since) d = more-start-fine _
-  more-touch-fine (Multi m pair) d = goes-on-fine _ t (three-fine n c now least most hc pair m (d .0) (d .1)) f
+  more-touch-fine (Multi m pair) d = three-fine n c now least most hc pair m (d .0) (d .1)
 
 pub if-know : {A : Type 0} (P : A → Type 0) (b : Bool) {x y : A} → (b ≡ true → P x) → (b ≡ false → P y) → P (if_then_else_ b x y)
 unfolding tests.if_then_else_
@@ -116,16 +113,16 @@ use-several ev e h = ap allOnPanel (sym (if-false (ev .points =? 1) _ _ e)) ∙ 
 two-of-fine : (t : Tracker) (pts : List Point) (now : ℕ) → Fine t → allOnPanel (firstPoints 2 pts) ≡ true → FineAfter (twoOf t pts now)
 unfolding twoOf
 two-of-fine t pts now f h =
-    two-touch-fine t _ _ _ now f (first-on pts h) (second-on pts h) (middle-on-panel _ h) (t .touch) (f .0)
+    several-fine _ t (two-touch-fine _ _ _ now (first-on pts h) (second-on pts h) (middle-on-panel _ h) (t .touch) (f .0)) f
 
 more-of-fine : (t : Tracker) (n : ℕ) (pts : List Point) (now : ℕ) → Fine t → 2 ≤ n → n ≤ maxPoints → allOnPanel (firstPoints n pts) ≡ true → FineAfter (moreOf t n pts now)
 unfolding moreOf
-more-of-fine t n pts now f least most h = more-touch-fine t n _ now f least most (middle-on-panel _ h) (t .touch) (f .0)
+more-of-fine t n pts now f least most h = several-fine _ t (more-touch-fine n _ now least most (middle-on-panel _ h) (t .touch) (f .0)) f
 
 fingers-fine : (t : Tracker) (ev : Event) (now : ℕ) → Fine t → allOnPanel (pointsInUse ev) ≡ true → FineAfter (fingersOf t ev now)
 unfolding fingersOf
 fingers-fine t ev now f h =
-    if-know FineAfter _ (λ e0. up-fine (t .touch) t now f) (λ n0.
+    if-know FineAfter _ (λ e0. up-fine t now f) (λ n0.
     if-know FineAfter _ (λ e1. one-fine (t .touch) t (ev .p) now (f .0) f (use-one ev e1 h)) (λ n1.
     if-know FineAfter _ (λ e2. two-of-fine t (ev .pts) now f (ap (λ (k : ℕ). allOnPanel (firstPoints k (ev .pts))) (sym (eqb-true _ _ e2)) ∙ use-several ev n1 h)) (λ n2.
     let r = fingers-range (ev .points) (eqb-false _ _ n0) (eqb-false _ _ n1) (eqb-false _ _ n2) in

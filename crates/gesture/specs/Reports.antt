@@ -25,17 +25,16 @@ use Rattle.fingers.specs.Fields.{reset}
 use Rattle.fingers.specs.OneFinger.{laterReport}
 use Rattle.fingers.specs.Releases.{releaseOf}
 use Rattle.fingers.specs.Pairs.{newPair}
-use Rattle.fingers.specs.Several.{multiFrom, twoFingers, threeFingers, multiEnd}
+use Rattle.fingers.specs.Several.{multiStep, multiFrom, twoFingers, threeFingers, multiEnd}
 use Rattle.fingers.specs.declared.gestures.Gesture.the-variants.{Cancel}
 use Rattle.fingers.specs.declared.gestures.Gesture.the-variants as gesture
 use Rattle.fingers.specs.declared.gestures.Outcome.{Outcome}
 use Rattle.fingers.specs.declared.gestures.Outcome.the-variants.{Quiet, Noted, Gives}
 use Rattle.fingers.specs.declared.keys.KeyStep.{KeyStep}
 use Rattle.fingers.specs.declared.keys.KeyStep.the-variants.{Same, Flipped}
+use Rattle.fingers.specs.declared.one.One.{One}
 use Rattle.fingers.specs.declared.one.OneStep.{OneStep}
-use Rattle.fingers.specs.declared.pair.Pairing.{Pairing}
 use Rattle.fingers.specs.declared.pair.Pairing.the-variants.{Unpaired, Paired}
-use Rattle.fingers.specs.declared.several.Multi as several
 use Rattle.fingers.specs.declared.several.MultiStep.{MultiStep}
 use Rattle.gesture.specs.Trackers.{step, origin, setTouch, setKeys}
 use Rattle.gesture.specs.declared.record.Touch.{Touch}
@@ -45,13 +44,22 @@ use Rattle.gesture.specs.declared.record.MultiEnd.the-variants.{Never, A
 use Rattle.gesture.specs.declared.record.Tracker.{Tracker}
 use Rattle.gesture.specs.declared.record.Step.{Step}
 
--- Count 0.
+-- Count 0: the touch is over, whatever it was.
 
-unfoldable pub allUp : Touch → Tracker → ℕ → Step
-allUp Idle t now = step Quiet t
-allUp Residual t now = step Quiet (setTouch t Idle (t .one) (t .«multi_end»))
-allUp (Multi m pair) t now = step (multiEnd m pair) (setTouch t Idle (t .one) (At now))
-allUp (Down start since) t now = step (releaseOf (t .one) start since now) (setTouch t Idle (t .one) (t .«multi_end»))
+unfoldable pub upOutcome : Touch → One → ℕ → Outcome
+upOutcome Idle one now = Quiet
+upOutcome Residual one now = Quiet
+upOutcome (Multi m pair) one now = multiEnd m pair
+upOutcome (Down start since) one now = releaseOf one start since now
+
+unfoldable pub endStored : Touch → MultiEnd → ℕ → MultiEnd
+endStored Idle end now = end
+endStored Residual end now = end
+endStored (Multi m pair) end now = At now
+endStored (Down start since) end now = end
+
+unfoldable pub allUp : Tracker → ℕ → Step
+allUp t now = step (upOutcome (t .touch) (t .one) now) (setTouch t Idle (t .one) (endStored (t .touch) (t .«multi_end») now))
 
 -- Count 1.
 
@@ -60,10 +68,14 @@ unfoldable pub isLastFinger : MultiEnd → ℕ → Bool
 isLastFinger Never now = false
 isLastFinger (At end) now = now - end <? liftGap
 
+unfoldable pub residualTouch : Tracker → Point → Step
+residualTouch t p = step (Noted noteResidual p) (setTouch t Residual (t .one) Never)
+
+unfoldable pub newTouch : Tracker → Point → ℕ → Step
+newTouch t p now = step (Gives (gesture.Down p)) (setTouch t (Down p now) (reset p) Never)
+
 unfoldable pub touchDown : Tracker → Point → ℕ → Step
-touchDown t p now =
-    if isLastFinger (t .«multi_end») now then step (Noted noteResidual p) (setTouch t Residual (t .one) Never)
-    else step (Gives (gesture.Down p)) (setTouch t (Down p now) (reset p) Never)
+touchDown t p now = if isLastFinger (t .«multi_end») now then residualTouch t p else newTouch t p now
 
 -- a one-finger touch goes on
 unfoldable pub goesOn : OneStep → Touch → Tracker → Step
@@ -75,32 +87,28 @@ oneFinger Residual t p now = step Quiet t
 oneFinger (Multi m pair) t p now = step Quiet t
 oneFinger (Down start since) t p now = goesOn (laterReport (t .one) start since p now (t .«grab_ms»)) (Down start since) t
 
--- Two or more: p and q are the first two of the points, c is the centroid.
+-- Two or more: the touch is one of several from here on. p and q are the first two of the points, c is the centroid.
 
-unfoldable pub multiStarts : Outcome → Tracker → several.Multi → Pairing → Step
-multiStarts out t multi pair = step out (setTouch t (Multi multi pair) (t .one) (t .«multi_end»))
+unfoldable pub twoStart : Outcome → Point → Point → Point → ℕ → MultiStep
+twoStart out p q c now = multiStep out (multiFrom 2 c now) (Paired (newPair p q c))
 
--- a touch of several goes on
-unfoldable pub multiGoesOn : MultiStep → Tracker → Step
-multiGoesOn s t = step (s .out) (setTouch t (Multi (s .multi) (s .pair)) (t .one) (t .«multi_end»))
+unfoldable pub two : Touch → Point → Point → Point → ℕ → MultiStep
+two Idle p q c now = twoStart Quiet p q c now
+two Residual p q c now = twoStart Quiet p q c now
+two (Down start since) p q c now = twoStart (Gives Cancel) p q c now
+two (Multi m pair) p q c now = twoFingers pair m p q c now
 
-unfoldable pub twoStart : Outcome → Tracker → Point → Point → Point → ℕ → Step
-twoStart out t p q c now = multiStarts out t (multiFrom 2 c now) (Paired (newPair p q c))
+unfoldable pub moreStart : Outcome → ℕ → Point → ℕ → MultiStep
+moreStart out n c now = multiStep out (multiFrom n c now) Unpaired
 
-unfoldable pub two : Touch → Tracker → Point → Point → Point → ℕ → Step
-two Idle t p q c now = twoStart Quiet t p q c now
-two Residual t p q c now = twoStart Quiet t p q c now
-two (Down start since) t p q c now = twoStart (Gives Cancel) t p q c now
-two (Multi m pair) t p q c now = multiGoesOn (twoFingers pair m p q c now) t
+unfoldable pub more : Touch → ℕ → Point → ℕ → MultiStep
+more Idle n c now = moreStart Quiet n c now
+more Residual n c now = moreStart Quiet n c now
+more (Down start since) n c now = moreStart (Gives Cancel) n c now
+more (Multi m pair) n c now = threeFingers pair m n c now
 
-unfoldable pub moreStart : Outcome → Tracker → ℕ → Point → ℕ → Step
-moreStart out t n c now = multiStarts out t (multiFrom n c now) Unpaired
-
-unfoldable pub more : Touch → Tracker → ℕ → Point → ℕ → Step
-more Idle t n c now = moreStart Quiet t n c now
-more Residual t n c now = moreStart Quiet t n c now
-more (Down start since) t n c now = moreStart (Gives Cancel) t n c now
-more (Multi m pair) t n c now = multiGoesOn (threeFingers pair m n c now) t
+unfoldable pub several : MultiStep → Tracker → Step
+several s t = step (s .out) (setTouch t (Multi (s .multi) (s .pair)) (t .one) (t .«multi_end»))
 
 -- The fingers, by their count.
 
@@ -108,14 +116,14 @@ abbrev pub finger : ℕ → List Point → Point
 finger k pts = getD pts k origin
 
 unfoldable pub twoOf : Tracker → List Point → ℕ → Step
-twoOf t pts now = two (t .touch) t (finger 0 pts) (finger 1 pts) (middle (firstPoints 2 pts)) now
+twoOf t pts now = several (two (t .touch) (finger 0 pts) (finger 1 pts) (middle (firstPoints 2 pts)) now) t
 
 unfoldable pub moreOf : Tracker → ℕ → List Point → ℕ → Step
-moreOf t n pts now = more (t .touch) t n (middle (firstPoints n pts)) now
+moreOf t n pts now = several (more (t .touch) n (middle (firstPoints n pts)) now) t
 
 unfoldable pub fingersOf : Tracker → Event → ℕ → Step
 fingersOf t ev now =
-    if ev .points =? 0 then allUp (t .touch) t now
+    if ev .points =? 0 then allUp t now
     else if ev .points =? 1 then oneFinger (t .touch) t (ev .p) now
     else if ev .points =? 2 then twoOf t (ev .pts) now
     else moreOf t (fingers (ev .points)) (ev .pts) now

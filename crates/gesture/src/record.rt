@@ -1,7 +1,8 @@
 // The tracker record. The touch that is on is an enum, so that there are never two; the fields of one finger
 // stand beside it because they outlive a touch.
 ghost use mathlib.Core.Path.{_≡_};
-ghost use Rattle.gesture.specs.Trackers.{freshTracker, isActive, setTouch, setKeys, setOne, setGrab};
+ghost use Rattle.fingers.specs.declared.gestures.Outcome.the-variants.{Quiet};
+ghost use Rattle.gesture.specs.Trackers.{step, freshTracker, isActive, setTouch, setKeys, setOne, setGrab};
 use fingers::Multi;
 use fingers::One;
 use fingers::Outcome;
@@ -42,6 +43,16 @@ pub struct Tracker {
 pub struct Step {
     pub out: Outcome,
     pub tracker: Tracker,
+}
+
+// Nothing came of the call, and nothing is altered.
+pub(crate) fn quiet(t: Tracker) -> Step
+    ensures { λ r. ⌜ r ≡ step Quiet t ⌝ }
+{
+    Step {
+        out: Outcome::Quiet,
+        tracker: t,
+    }
 }
 
 pub fn fresh() -> Tracker

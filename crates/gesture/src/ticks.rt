@@ -13,18 +13,9 @@ fn still_down(touch: Touch, t: Tracker, now: u64) -> Step
     ensures { λ r. ⌜ r ≡ stillDown touch t now ⌝ }
 {
     match touch {
-        Touch::Idle => Step {
-            out: Outcome::Quiet,
-            tracker: t,
-        },
-        Touch::Residual => Step {
-            out: Outcome::Quiet,
-            tracker: t,
-        },
-        Touch::Multi(_, _) => Step {
-            out: Outcome::Quiet,
-            tracker: t,
-        },
+        Touch::Idle => record::quiet(t),
+        Touch::Residual => record::quiet(t),
+        Touch::Multi(_, _) => record::quiet(t),
         Touch::Down(p0, t0) => {
             let one = t.one;
             let s = fingers::held_still(one, p0, t0, now, t.grab_ms);

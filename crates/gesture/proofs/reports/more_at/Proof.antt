@@ -28,9 +28,6 @@ enum-known-touch c = search needs
 three-fingers-requires : tie.Need-three-fingers-requires
 three-fingers-requires c κs = search needs
 
-multi-goes-on-requires : tie.Need-multi-goes-on-requires
-multi-goes-on-requires c κs = search needs
-
 returns : tie.Need-returns
 unfolding more
 returns c = search (follow, ← c .more-start .ensures, c .before .enum-told .given .1)
@@ -45,7 +42,7 @@ returns-3 c = search (follow, ← c .more-start3 .ensures, c .before .enum-told3
 
 returns-4 : tie.Need-returns-4
 unfolding more
-returns-4 c = search (follow, ← c .multi-goes-on .ensures, ← c .before .three-fingers .ensures, c .before .before .before .touch .given .1)
+returns-4 c = search (follow, ← c .three-fingers .ensures, c .before .before .touch .given .1)
 
 pub more-at-spec : {M : Type 1} → statement M
 more-at-spec =
@@ -59,7 +56,6 @@ more-at-spec =
     more-start-requires-3
     enum-known-touch
     three-fingers-requires
-    multi-goes-on-requires
     returns
     returns-2
     returns-3

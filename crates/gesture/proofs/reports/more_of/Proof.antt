@@ -10,9 +10,12 @@ middle-of-requires c κs = search needs
 more-at-requires : tie.Need-more-at-requires
 more-at-requires c κs = search needs
 
+several-requires : tie.Need-several-requires
+several-requires c κs = search needs
+
 returns : tie.Need-returns
 unfolding moreOf
-returns c = search (follow, ← c .more-at .ensures, ← c .before .middle-of .ensures)
+returns c = search (follow, ← c .several .ensures, ← c .before .more-at .ensures, ← c .before .before .middle-of .ensures)
 
 pub more-of-spec : {M : Type 1} → statement M
-more-of-spec = tie.close (tie.spec middle-of-requires more-at-requires returns)
+more-of-spec = tie.close (tie.spec middle-of-requires more-at-requires several-requires returns)

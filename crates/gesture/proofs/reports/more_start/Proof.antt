@@ -7,12 +7,9 @@ use Rattle.gesture.proofs.reports.more_start.Tie as tie
 multi-from-requires : tie.Need-multi-from-requires
 multi-from-requires c κs = search needs
 
-multi-starts-requires : tie.Need-multi-starts-requires
-multi-starts-requires c κs = search needs
-
 returns : tie.Need-returns
 unfolding moreStart
-returns c = search (follow, ← c .multi-starts .ensures, ← c .before .multi-from .ensures)
+returns c = search (follow, ← c .multi-from .ensures)
 
 pub more-start-spec : {M : Type 1} → statement M
-more-start-spec = tie.close (tie.spec multi-from-requires multi-starts-requires returns)
+more-start-spec = tie.close (tie.spec multi-from-requires returns)

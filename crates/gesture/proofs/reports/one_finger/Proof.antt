@@ -13,8 +13,14 @@ touch-down-requires c κs = search needs
 enum-told-2 : tie.Need-enum-told-2
 enum-told-2 c = search needs
 
+quiet-requires : tie.Need-quiet-requires
+quiet-requires c κs = search needs
+
 enum-told-3 : tie.Need-enum-told-3
 enum-told-3 c = search needs
+
+quiet-requires-2 : tie.Need-quiet-requires-2
+quiet-requires-2 c κs = search needs
 
 enum-known-touch : tie.Need-enum-known-touch
 enum-known-touch c = search needs
@@ -31,11 +37,11 @@ returns c = search (follow, ← c .touch-down .ensures, c .before .enum-told .gi
 
 returns-2 : tie.Need-returns-2
 unfolding oneFinger
-returns-2 c = search (follow, c .enum-told2 .given .1)
+returns-2 c = search (follow, ← c .quiet .ensures, c .before .enum-told2 .given .1)
 
 returns-3 : tie.Need-returns-3
 unfolding oneFinger
-returns-3 c = search (follow, c .enum-told3 .given .1)
+returns-3 c = search (follow, ← c .quiet2 .ensures, c .before .enum-told3 .given .1)
 
 returns-4 : tie.Need-returns-4
 unfolding oneFinger
@@ -48,7 +54,9 @@ one-finger-spec =
     enum-told
     touch-down-requires
     enum-told-2
+    quiet-requires
     enum-told-3
+    quiet-requires-2
     enum-known-touch
     later-report-requires
     goes-on-requires

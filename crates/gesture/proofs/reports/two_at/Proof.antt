@@ -28,9 +28,6 @@ enum-known-touch c = search needs
 two-fingers-requires : tie.Need-two-fingers-requires
 two-fingers-requires c κs = search needs
 
-multi-goes-on-requires : tie.Need-multi-goes-on-requires
-multi-goes-on-requires c κs = search needs
-
 returns : tie.Need-returns
 unfolding two
 returns c = search (follow, ← c .two-start .ensures, c .before .enum-told .given .1)
@@ -45,7 +42,7 @@ returns-3 c = search (follow, ← c .two-start3 .ensures, c .before .enum-told3 
 
 returns-4 : tie.Need-returns-4
 unfolding two
-returns-4 c = search (follow, ← c .multi-goes-on .ensures, ← c .before .two-fingers .ensures, c .before .before .before .touch .given .1)
+returns-4 c = search (follow, ← c .two-fingers .ensures, c .before .before .touch .given .1)
 
 pub two-at-spec : {M : Type 1} → statement M
 two-at-spec =
@@ -59,7 +56,6 @@ two-at-spec =
     two-start-requires-3
     enum-known-touch
     two-fingers-requires
-    multi-goes-on-requires
     returns
     returns-2
     returns-3

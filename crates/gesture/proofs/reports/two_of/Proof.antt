@@ -16,11 +16,20 @@ middle-of-requires c κs = search needs
 two-at-requires : tie.Need-two-at-requires
 two-at-requires c κs = search needs
 
+several-requires : tie.Need-several-requires
+several-requires c κs = search needs
+
 returns : tie.Need-returns
 unfolding twoOf
-returns c = search (follow, ← c .two-at .ensures, ← c .before .middle-of .ensures)
+returns c = search (follow, ← c .several .ensures, ← c .before .two-at .ensures, ← c .before .before .middle-of .ensures)
 
 pub two-of-spec : {M : Type 1} → statement M
 two-of-spec =
     tie.close
-    (tie.spec array-copy-out-p array-copy-out-q middle-of-requires two-at-requires returns)
+    (tie.spec
+    array-copy-out-p
+    array-copy-out-q
+    middle-of-requires
+    two-at-requires
+    several-requires
+    returns)

@@ -10,13 +10,9 @@ multi-from-requires c κs = search needs
 new-pair-requires : tie.Need-new-pair-requires
 new-pair-requires c κs = search needs
 
-multi-starts-requires : tie.Need-multi-starts-requires
-multi-starts-requires c κs = search needs
-
 returns : tie.Need-returns
 unfolding twoStart
-returns c = search (follow, ← c .multi-starts .ensures, ← c .before .new-pair .ensures, ← c .before .before .multi-from .ensures)
+returns c = search (follow, ← c .new-pair .ensures, ← c .before .multi-from .ensures)
 
 pub two-start-spec : {M : Type 1} → statement M
-two-start-spec =
-    tie.close (tie.spec multi-from-requires new-pair-requires multi-starts-requires returns)
+two-start-spec = tie.close (tie.spec multi-from-requires new-pair-requires returns)

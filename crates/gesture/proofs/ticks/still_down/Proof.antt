@@ -7,11 +7,20 @@ use Rattle.gesture.proofs.ticks.still_down.Tie as tie
 enum-told : tie.Need-enum-told
 enum-told c = search needs
 
+quiet-requires : tie.Need-quiet-requires
+quiet-requires c κs = search needs
+
 enum-told-2 : tie.Need-enum-told-2
 enum-told-2 c = search needs
 
+quiet-requires-2 : tie.Need-quiet-requires-2
+quiet-requires-2 c κs = search needs
+
 enum-told-3 : tie.Need-enum-told-3
 enum-told-3 c = search needs
+
+quiet-requires-3 : tie.Need-quiet-requires-3
+quiet-requires-3 c κs = search needs
 
 enum-known-touch : tie.Need-enum-known-touch
 enum-known-touch c = search needs
@@ -24,15 +33,15 @@ goes-on-requires c κs = search needs
 
 returns : tie.Need-returns
 unfolding stillDown
-returns c = search (follow, c .enum-told .given .1)
+returns c = search (follow, ← c .quiet .ensures, c .before .enum-told .given .1)
 
 returns-2 : tie.Need-returns-2
 unfolding stillDown
-returns-2 c = search (follow, c .enum-told2 .given .1)
+returns-2 c = search (follow, ← c .quiet2 .ensures, c .before .enum-told2 .given .1)
 
 returns-3 : tie.Need-returns-3
 unfolding stillDown
-returns-3 c = search (follow, c .enum-told3 .given .1)
+returns-3 c = search (follow, ← c .quiet3 .ensures, c .before .enum-told3 .given .1)
 
 returns-4 : tie.Need-returns-4
 unfolding stillDown
@@ -43,8 +52,11 @@ still-down-spec =
     tie.close
     (tie.spec
     enum-told
+    quiet-requires
     enum-told-2
+    quiet-requires-2
     enum-told-3
+    quiet-requires-3
     enum-known-touch
     held-still-requires
     goes-on-requires
