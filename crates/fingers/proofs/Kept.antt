@@ -2,15 +2,12 @@
 -- The crate gesture cites these for its law that every call keeps the state rule. Assumes nothing.
 use mathlib.Core.Path.{_≡_, refl}
 use mathlib.Core.Bool.{Bool, true, false, not}
-use Prim.Native.Nat.{ℕ, _+_, _-_, _≤_, _<_, max}
+use Prim.Native.Nat.{ℕ, _-_, _≤_, _<_}
 use native.Mathlib.Omega.{arith}
-use native.Mathlib.Nat.{max-le}
-use borrow.Author.Tests.{ltb-true}
 use Rattle.panel.specs.Tests as tests
-use Rattle.panel.specs.Tests.{if_then_else_, _and_, _or_, _≤?_, _<?_, _=?_}
+use Rattle.panel.specs.Tests.{if_then_else_, _or_}
 use Rattle.panel.specs.Sizes.{width, maxPoints}
 use Rattle.panel.specs.Points.{onPanel}
-use Rattle.panel.specs.Distances.{difference, distance}
 use Rattle.panel.specs.declared.points.Point.{Point}
 use Rattle.panel.specs.declared.axes.Axis.{Axis}
 use Rattle.panel.specs.declared.axes.Axis.the-variants.{H, «V»}
@@ -18,9 +15,9 @@ use Rattle.panel.specs.declared.axes.AxisLock.{AxisLock}
 use Rattle.panel.specs.declared.axes.AxisLock.the-variants.{Free, On}
 use Rattle.panel.proofs.Laws.{on-panel-x, on-panel-y, difference-at-most, distance-on-panel}
 use Rattle.fingers.specs.Fields.{reset, setGrabbed, setLongSent, setAxis, setCaptured, setDirect}
-use Rattle.fingers.specs.Holds.{holdOf, heldStill}
+use Rattle.fingers.specs.Holds.{heldStill}
 use Rattle.fingers.specs.OneFinger.{tracked, dragAlong, axisAt, moving, grabOrMoving, laterReport}
-use Rattle.fingers.specs.Pairs.{undecided, pinching, noPinch, spanAlong, pairAxis, newPair, stateNext, pairAt, pairNext, notPinch}
+use Rattle.fingers.specs.Pairs.{noPinch, spanAlong, pairAxis, newPair, stateNext, pairAt, pairNext, notPinch}
 use Rattle.fingers.specs.Several.{multiFrom, multiGrown, multiSeen, pinchOrSeen, twoFingers, pinchEndOrSeen, threeFingers}
 use Rattle.fingers.specs.declared.one.One.{One}
 use Rattle.fingers.specs.declared.one.OneStep.{OneStep}

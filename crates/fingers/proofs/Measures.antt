@@ -1,9 +1,9 @@
 -- How large the panel's measures are of any two points, on the panel or not: what a sum or a narrower width of them
 -- asks. Assumes nothing.
-use Prim.Native.Nat.{ℕ, _+_, _*_, _≤_, max}
+use Prim.Native.Nat.{ℕ, _+_, _*_, _≤_}
 use native.Mathlib.Omega.{arith}
 use native.Mathlib.Nat.{max-le, mul-le-mul}
-use Rattle.panel.specs.Distances.{difference, distance, distance2}
+use Rattle.panel.specs.Distances.{distance, distance2}
 use Rattle.panel.specs.declared.points.Point.{Point}
 use Rattle.panel.proofs.Laws.{distance-is, difference-at-most}
 

@@ -1,6 +1,5 @@
 -- The fields of a one-finger touch. "all touch fields reset" at touch-down; else a rule sets one or two of them and the
 -- others stay, which these definitions write out.
-use Prim.Native.Nat.{ℕ}
 use mathlib.Core.Bool.{Bool, true, false}
 use Rattle.panel.specs.declared.points.Point.{Point}
 use Rattle.panel.specs.declared.axes.AxisLock.{AxisLock}

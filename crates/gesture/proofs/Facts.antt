@@ -4,7 +4,6 @@ use mathlib.Core.Path.{_≡_, refl, sym, _∙_}
 use mathlib.Core.Bool.{true}
 use Prim.Native.Nat.{_≤_}
 use borrow.Author.Tests.{ltb-true, leb-true, lt-ltb, le-leb}
-use Rattle.panel.specs.Tests.{_and_}
 use Rattle.panel.specs.Points.{onPanel}
 use Rattle.panel.proofs.Laws.{and-left, and-right}
 use Rattle.fingers.specs.Sizes.{grabMost}

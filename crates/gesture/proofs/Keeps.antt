@@ -13,7 +13,7 @@ use Rattle.gesture.specs.Answers.{refused, answered, reported, ticked, c
 use Rattle.gesture.specs.declared.record.Tracker.{Tracker}
 use Rattle.gesture.specs.declared.answers.Answer.{Answer}
 use Rattle.gesture.specs.declared.answers.GrabAnswer.{GrabAnswer}
-use Rattle.gesture.proofs.Facts.{Fine, facts, kept}
+use Rattle.gesture.proofs.Facts.{facts, kept}
 use Rattle.gesture.proofs.Steps.{if-know, origin-on, report-fine, tick-fine}
 
 pub fresh-kept : stateRule freshTracker ≡ true

@@ -1,7 +1,7 @@
 -- The public calls in document 01's numbers: what each tells for every input, that a refused call carries nothing and
 -- alters nothing, and that its contract leaves no second answer. Assumes nothing.
 use mathlib.Core.Path.{_≡_, refl}
-use mathlib.Core.Bool.{Bool, true, false}
+use mathlib.Core.Bool.{Bool, false}
 use Prim.Native.Nat.{ℕ}
 use Rattle.panel.specs.Tests.{if_then_else_}
 use Rattle.panel.specs.Points.{allOnPanel}

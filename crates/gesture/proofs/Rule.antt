@@ -1,7 +1,7 @@
 -- The state rule of specs/States.antt is all the parts of specs/Parts.antt together: the same tests, in the order in which
 -- the code goes through the record. Assumes nothing.
 use mathlib.Core.Path.{_≡_, refl, sym}
-use mathlib.Core.Bool.{Bool, true, false, true≢false}
+use mathlib.Core.Bool.{Bool, true, false}
 use mathlib.Core.List.{_∷_}
 use Prim.Native.Nat.{ℕ}
 use Rattle.panel.specs.Tests as tests
@@ -12,7 +12,6 @@ use Rattle.panel.proofs.Laws.{and-left, and-right}
 use Rattle.fingers.specs.Sizes.{grabMost}
 use Rattle.fingers.specs.declared.one.One.{One}
 use Rattle.fingers.specs.declared.pair.Pairing.the-variants.{Unpaired, Paired}
-use Rattle.gesture.specs.Parts as parts
 use Rattle.gesture.specs.Parts.{touchPart, severalPart, multiPart, multiPlaces, pairingPart, pairPart, pairPlaces, onePart, allParts}
 use Rattle.gesture.specs.States.{stateRule, heldPoints, centroids, spanRule, pairRule, mostRule, rawRule}
 use Rattle.gesture.specs.declared.record.Touch.{Touch}

@@ -3,7 +3,7 @@
 -- "`capture`: takes and clears the raw wish always; if active and not captured sets captured and raw. `capture_direct`:
 -- clears the wish; if active sets captured and direct." "grab time (0 at the start, set to at most 5000)".
 use Prim.Native.Nat.{ℕ, min}
-use mathlib.Core.Bool.{Bool, true, false, not}
+use mathlib.Core.Bool.{Bool, false, not}
 use Rattle.panel.specs.Tests.{if_then_else_, _and_}
 use Rattle.fingers.specs.Sizes.{grabMost}
 use Rattle.fingers.specs.Fields.{setCaptured, setDirect}

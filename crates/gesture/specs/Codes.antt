@@ -11,7 +11,7 @@ use Rattle.gesture.specs.Trackers.{origin}
 use Rattle.gesture.specs.Lines.{line, axisNumber, bit, isLocked}
 use Rattle.gesture.specs.declared.lines.Coded.{Coded}
 use Rattle.gesture.specs.declared.lines.Log.{Log}
-use Rattle.gesture.specs.declared.lines.Log.the-variants.{Silent, Logged}
+use Rattle.gesture.specs.declared.lines.Log.the-variants.{Silent}
 
 unfoldable pub codedAs : ℕ → ℕ → Point → Coded
 codedAs code number p = record { code = code; number = number; p = p }

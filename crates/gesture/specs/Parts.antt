@@ -1,6 +1,5 @@
 -- The state rule part by part, as the code goes through the record: proofs/Rule.antt shows that the parts together are
 -- `stateRule`, which is the one to hold against document 01.
-use Prim.Native.Nat.{ℕ}
 use mathlib.Core.Bool.{Bool, true}
 use Rattle.panel.specs.Tests.{_and_, _≤?_, _<?_}
 use Rattle.panel.specs.Sizes.{width, maxPoints}

@@ -11,7 +11,7 @@
 -- "Each report with two or more clears residual. Centroid: sums divided by n, rounded down. If a one-finger touch was on,
 -- the answer is Cancel, multi starts, and with two fingers a new pair." "A count over 5 means 5."
 use Prim.Native.Nat.{ℕ, _-_}
-use mathlib.Core.Bool.{Bool, true, false}
+use mathlib.Core.Bool.{Bool, false}
 use mathlib.Core.List.{List}
 use lib.ListN.{getD}
 use Rattle.panel.specs.Tests.{if_then_else_, _<?_, _=?_}

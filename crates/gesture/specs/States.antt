@@ -5,8 +5,7 @@
 --
 -- By type, so that no test stands for it: active exactly if one of down, multi, residual is there, never two (a `Touch` is
 -- one of Idle, Down, Multi, Residual); a pair needs multi (it stands inside it).
-use Prim.Native.Nat.{ℕ}
-use mathlib.Core.Bool.{Bool, true, false, not}
+use mathlib.Core.Bool.{Bool, true, not}
 use mathlib.Core.List.{List, [], _∷_}
 use Rattle.panel.specs.Tests.{_and_, _or_, _≤?_, _<?_}
 use Rattle.panel.specs.Sizes.{width, maxPoints}

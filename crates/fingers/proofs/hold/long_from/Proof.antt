@@ -1,4 +1,3 @@
-use borrow.Author.Tests.{ne-eqb}
 use Rattle.panel.proofs.Follow.{follow}
 use Rattle.fingers.specs.Holds.{longFrom}
 use Rattle.fingers.proofs.hold.long_from.Statement.{statement}
@@ -10,7 +9,7 @@ returns c = search follow
 
 returns-2 : tie.Need-returns-2
 unfolding longFrom
-returns-2 c = search (follow, ne-eqb _ _ (c .if1 .left))
+returns-2 c = search follow
 
 pub long-from-spec : {M : Type 1} → statement M
 long-from-spec = tie.close (tie.spec returns returns-2)

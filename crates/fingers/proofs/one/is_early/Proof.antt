@@ -1,4 +1,3 @@
-use borrow.Author.Tests.{ne-eqb}
 use Rattle.panel.proofs.Follow.{follow}
 use Rattle.fingers.specs.OneFinger.{earlyNow}
 use Rattle.fingers.proofs.one.is_early.Statement.{statement}
@@ -14,11 +13,11 @@ returns-2 c = search follow
 
 returns-3 : tie.Need-returns-3
 unfolding earlyNow
-returns-3 c = search (follow, ne-eqb _ _ (c .before .if2 .left))
+returns-3 c = search follow
 
 returns-4 : tie.Need-returns-4
 unfolding earlyNow
-returns-4 c = search (follow, ne-eqb _ _ (c .before .if2 .left))
+returns-4 c = search follow
 
 pub is-early-spec : {M : Type 1} → statement M
 is-early-spec = tie.close (tie.spec returns returns-2 returns-3 returns-4)

@@ -1,4 +1,3 @@
-use borrow.Author.Tests.{ne-eqb}
 use Rattle.panel.proofs.Follow.{follow}
 use Rattle.fingers.specs.Pairs.{stateNext}
 use Rattle.fingers.proofs.pair.state_next.Statement.{statement}
@@ -18,7 +17,7 @@ returns-3 c = search follow
 
 returns-4 : tie.Need-returns-4
 unfolding stateNext
-returns-4 c = search (follow, ne-eqb _ _ (c .if1 .left))
+returns-4 c = search follow
 
 pub state-next-spec : {M : Type 1} → statement M
 state-next-spec = tie.close (tie.spec returns returns-2 returns-3 returns-4)

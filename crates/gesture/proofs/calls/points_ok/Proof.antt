@@ -1,4 +1,3 @@
-use borrow.Author.Tests.{ne-eqb}
 use Rattle.gesture.specs.Answers.{pointsInUse}
 use Rattle.gesture.proofs.Counts.{one-point}
 use Rattle.panel.proofs.Follow.{follow}
@@ -18,7 +17,7 @@ all-on-panel-requires c κs = search needs
 
 returns-2 : tie.Need-returns-2
 unfolding pointsInUse
-returns-2 c = search (follow, ← c .all-on-panel .ensures, ne-eqb _ _ (c .before .if1 .left))
+returns-2 c = search (follow, ← c .all-on-panel .ensures)
 
 pub points-ok-spec : {M : Type 1} → statement M
 points-ok-spec = tie.close (tie.spec on-panel-requires returns all-on-panel-requires returns-2)

@@ -1,4 +1,3 @@
-use borrow.Author.Tests.{ne-eqb}
 use Rattle.panel.proofs.Follow.{follow}
 use Rattle.gesture.specs.Codes.{isLaterDrag}
 use borrow.Author.Needs.{needs}
@@ -14,7 +13,7 @@ returns c = search (follow, ← c .is-locked .ensures)
 
 returns-2 : tie.Need-returns-2
 unfolding isLaterDrag
-returns-2 c = search (follow, ne-eqb _ _ (c .if1 .left))
+returns-2 c = search follow
 
 pub is-later-drag-spec : {M : Type 1} → statement M
 is-later-drag-spec = tie.close (tie.spec is-locked-requires returns returns-2)

@@ -1,4 +1,3 @@
-use borrow.Author.Tests.{ne-eqb}
 use Rattle.gesture.proofs.Counts.{fingers-few, fingers-many}
 use Rattle.panel.proofs.Follow.{follow}
 use Rattle.gesture.specs.Reports.{fingersOf}
@@ -38,29 +37,11 @@ returns-3 c = search (follow, ← c .two-of .ensures, c .before .match .keys3)
 
 returns-4 : tie.Need-returns-4
 unfolding fingersOf
-returns-4 c =
-    let not-these = c .before .before .match .rest in
-    search (
-      follow,
-      ← c .more-of .ensures,
-      fingers-few _ (c .before .if1 .taken),
-      ne-eqb _ _ (not-these .0 .0 .1),
-      ne-eqb _ _ (not-these .0 .1),
-      ne-eqb _ _ (not-these .1),
-    )
+returns-4 c = search (follow, ← c .more-of .ensures, fingers-few _ (c .before .if1 .taken))
 
 returns-5 : tie.Need-returns-5
 unfolding fingersOf
-returns-5 c =
-    let not-these = c .before .before .match .rest in
-    search (
-      follow,
-      ← c .more-of2 .ensures,
-      fingers-many _ (c .before .if1 .left),
-      ne-eqb _ _ (not-these .0 .0 .1),
-      ne-eqb _ _ (not-these .0 .1),
-      ne-eqb _ _ (not-these .1),
-    )
+returns-5 c = search (follow, ← c .more-of2 .ensures, fingers-many _ (c .before .if1 .left))
 
 pub by-count-spec : {M : Type 1} → statement M
 by-count-spec =
