@@ -1,11 +1,12 @@
 -- What one computed test over every byte shows of the lowest bit set. Assumes nothing.
-use mathlib.Core.Path.{sym, subst}
+use mathlib.Core.Path.{_≡_, sym, subst}
 use mathlib.Core.Logic.{_⊎_, ⊎-elim}
 use mathlib.Core.Bool.{Bool, true, false}
 use Prim.Native.Nat.{ℕ, zero, suc, _<_, _/_, _%_, _^_}
 use native.Mathlib.Nat.{eq-or-lt-of-le, le-of-suc-le-suc, not-suc-le-zero}
-use lib.Dec.{T, ltb, eqb, ltb→lt}
+use lib.Dec.{T, ltb, eqb, ltb→lt, eqb→eq}
 use lib.Count.{trailingZeros}
+use Rattle.fingers.specs.Sizes.{keyCount}
 use Rattle.fingers.specs.Keys.{lowest}
 
 abbrev both : Bool → Bool → Bool
@@ -31,21 +32,44 @@ below f (suc n) t k h =
     ⊎-elim (λ e. subst (λ (m : ℕ). T (f m)) (sym e) (both-left (f n) (every f n) t))
     (λ l. below f n (both-right (f n) (every f n) t) k l) (eq-or-lt-of-le (le-of-suc-le-suc h))
 
--- the lowest key of a mask that has one is one of eight
+-- The lowest key of a mask that has one: it is one of eight, its bit is set, and none below it.
+
+abbrev in-range : ℕ → Bool
+in-range m = ltb (trailingZeros keyCount m) keyCount
+
+abbrev is-set : ℕ → Bool
+is-set m = eqb (m / 2 ^ trailingZeros keyCount m % 2) 1
+
+abbrev none-below : ℕ → Bool
+none-below m = eqb (m % 2 ^ trailingZeros keyCount m) 0
+
 abbrev low-test : ℕ → Bool
 low-test zero = true
-low-test (suc m) = ltb (trailingZeros 8 (suc m)) 8
+low-test (suc m) = both (in-range (suc m)) (both (is-set (suc m)) (none-below (suc m)))
 
-pub lowest-lt : (m : ℕ) → zero < m → m < 256 → lowest m < 8
-unfolding lowest trailingZeros
-lowest-lt zero p h = absurd (not-suc-le-zero p)
-lowest-lt (suc m) p h = ltb→lt (trailingZeros 8 (suc m)) 8 (below low-test 256 tt (suc m) h)
-
--- and it is the lowest: its bit is set, and none below it
-abbrev least-test : ℕ → Bool
-least-test zero = true
-least-test (suc m) = both (eqb (suc m / 2 ^ trailingZeros 8 (suc m) % 2) 1) (eqb (suc m % 2 ^ trailingZeros 8 (suc m)) 0)
-
-pub lowest-is : (m : ℕ) → m < 256 → T (least-test m)
+low : (m : ℕ) → m < 256 → T (low-test m)
 unfolding trailingZeros
-lowest-is m h = below least-test 256 tt m h
+low m h = below low-test 256 tt m h
+
+pub lowest-lt : (m : ℕ) → zero < m → m < 256 → lowest m < keyCount
+unfolding lowest
+lowest-lt zero p h = absurd (not-suc-le-zero p)
+lowest-lt (suc m) p h =
+    let n = suc m in
+    ltb→lt (trailingZeros keyCount n) keyCount (both-left (in-range n) (both (is-set n) (none-below n)) (low n h))
+
+pub lowest-is-set : (m : ℕ) → zero < m → m < 256 → m / 2 ^ lowest m % 2 ≡ 1
+unfolding lowest
+lowest-is-set zero p h = absurd (not-suc-le-zero p)
+lowest-is-set (suc m) p h =
+    let n = suc m in
+    let rest = both-right (in-range n) (both (is-set n) (none-below n)) (low n h) in
+    eqb→eq (n / 2 ^ trailingZeros keyCount n % 2) 1 (both-left (is-set n) (none-below n) rest)
+
+pub none-below-lowest : (m : ℕ) → zero < m → m < 256 → m % 2 ^ lowest m ≡ 0
+unfolding lowest
+none-below-lowest zero p h = absurd (not-suc-le-zero p)
+none-below-lowest (suc m) p h =
+    let n = suc m in
+    let rest = both-right (in-range n) (both (is-set n) (none-below n)) (low n h) in
+    eqb→eq (n % 2 ^ trailingZeros keyCount n) 0 (both-right (is-set n) (none-below n) rest)

@@ -6,17 +6,18 @@ use Prim.Native.Nat.{ℕ, _-_, _^_}
 use lib.Bits.{bitAnd, bitXor}
 use lib.Count.{trailingZeros}
 use Rattle.panel.specs.Tests.{if_then_else_, _<?_}
+use Rattle.fingers.specs.Sizes.{keyCount, allKeys}
 use Rattle.fingers.specs.declared.keys.KeyStep.{KeyStep}
 use Rattle.fingers.specs.declared.keys.KeyStep.the-variants.{Same, Flipped}
 use Rattle.fingers.specs.declared.gestures.Gesture.the-variants.{KeyUp, KeyDown}
 
 -- the keys of one mask that are not in another
 unfoldable pub without : ℕ → ℕ → ℕ
-without mask other = bitAnd mask (255 - other)
+without mask other = bitAnd mask (allKeys - other)
 
 -- the lowest key of a mask that has one
 unfoldable pub lowest : ℕ → ℕ
-lowest mask = trailingZeros 8 mask
+lowest mask = trailingZeros keyCount mask
 
 unfoldable pub flipped : ℕ → ℕ → ℕ
 flipped mask key = bitXor mask (2 ^ key)

@@ -2,6 +2,13 @@
 -- notes of the log.
 use Prim.Native.Nat.{ℕ}
 
+-- "Keys: any of eight bits."
+abbrev pub keyCount : ℕ
+keyCount = 8
+
+abbrev pub allKeys : ℕ
+allKeys = 255
+
 -- "moved once over 15"
 abbrev pub slop : ℕ
 slop = 15
@@ -49,6 +56,10 @@ spanLeast = 1
 
 abbrev pub spanMost : ℕ
 spanMost = 999
+
+-- "most fingers 2..5": the fewest that are several; the most are the panel's
+abbrev pub fewest : ℕ
+fewest = 2
 
 -- "dy at least 60 (n 2) or 30 (n 3)", "at most 2000 ms"
 abbrev pub multiMin2 : ℕ

@@ -2,6 +2,7 @@
 // started. Taking the lowest changed bit whichever way it changed would tell a press as a release's key.
 ghost use mathlib.Core.Path.{_≡_};
 ghost use Prim.Native.Nat.{_<_};
+ghost use Rattle.fingers.specs.Sizes.{keyCount};
 ghost use Rattle.fingers.specs.Keys.{without, lowest, flipped, keyStep};
 use crate::gestures::Gesture;
 
@@ -22,13 +23,13 @@ fn clear(mask: u8, other: u8) -> u8
 // The lowest key of a mask that has one.
 fn lowest_of(mask: u8) -> u8
     requires { ⌜ 0 < mask ⌝ }
-    ensures { λ r. ⌜ (r ≡ lowest mask) × (r < 8) ⌝ }
+    ensures { λ r. ⌜ (r ≡ lowest mask) × (r < keyCount) ⌝ }
 {
     u8::trailing_zeros(mask) as u8
 }
 
 fn flip(mask: u8, key: u8) -> u8
-    requires { ⌜ key < 8 ⌝ }
+    requires { ⌜ key < keyCount ⌝ }
     ensures { λ r. ⌜ r ≡ flipped mask key ⌝ }
 {
     mask ^ (1 << key)

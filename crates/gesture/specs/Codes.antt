@@ -7,6 +7,7 @@ use Rattle.panel.specs.declared.points.Point.{Point}
 use Rattle.panel.specs.declared.axes.AxisLock.{AxisLock}
 use Rattle.fingers.specs.declared.gestures.Gesture.{Gesture}
 use Rattle.fingers.specs.declared.gestures.Gesture.the-variants.{Down, Tap, LongPress, Drag, Grab, Up, SwipeLeft, SwipeRight, SwipeUp, SwipeDown, Cancel, MultiSwipeDown, KeyDown, KeyUp, Move, Pinch, PinchEnd}
+use Rattle.gesture.specs.Letters.{ascii-D, ascii-T, ascii-L, ascii-M, ascii-G, ascii-U, ascii-less, ascii-greater, ascii-caret, ascii-v, ascii-C, ascii-W, ascii-K, ascii-k, ascii-E, drag}
 use Rattle.gesture.specs.Trackers.{origin}
 use Rattle.gesture.specs.Lines.{line, axisNumber, bit, isLocked}
 use Rattle.gesture.specs.declared.lines.Coded.{Coded}
@@ -21,7 +22,7 @@ unfoldable pub codeOf : Gesture → Coded
 codeOf (Down p) = codedAs 0 0 p
 codeOf (Tap p) = codedAs 1 0 p
 codeOf (LongPress p) = codedAs 2 0 p
-codeOf (Drag start p a) = codedAs 3 (axisNumber a) p
+codeOf (Drag start p a) = codedAs drag (axisNumber a) p
 codeOf (Grab p) = codedAs 4 0 p
 codeOf (Up p) = codedAs 5 0 p
 codeOf SwipeLeft = codedAs 6 0 origin
@@ -38,23 +39,23 @@ codeOf (PinchEnd released) = codedAs 16 (bit released) origin
 
 unfoldable pub lineByCode : ℕ → ℕ → Point → ℕ → Log
 lineByCode code number p now =
-    if code =? 0 then line 68 0 p now
-    else if code =? 1 then line 84 0 p now
-    else if code =? 2 then line 76 0 p now
-    else if code =? 3 then line 77 number p now
-    else if code =? 4 then line 71 0 p now
-    else if code =? 5 then line 85 0 p now
-    else if code =? 6 then line 60 0 origin now
-    else if code =? 7 then line 62 0 origin now
-    else if code =? 8 then line 94 0 origin now
-    else if code =? 9 then line 118 0 origin now
-    else if code =? 10 then line 67 0 origin now
-    else if code =? 11 then line 87 number origin now
-    else if code =? 12 then line 75 number origin now
-    else if code =? 13 then line 107 number origin now
-    else if code =? 16 then line 69 number origin now
+    if code =? 0 then line ascii-D 0 p now
+    else if code =? 1 then line ascii-T 0 p now
+    else if code =? 2 then line ascii-L 0 p now
+    else if code =? drag then line ascii-M number p now
+    else if code =? 4 then line ascii-G 0 p now
+    else if code =? 5 then line ascii-U 0 p now
+    else if code =? 6 then line ascii-less 0 origin now
+    else if code =? 7 then line ascii-greater 0 origin now
+    else if code =? 8 then line ascii-caret 0 origin now
+    else if code =? 9 then line ascii-v 0 origin now
+    else if code =? 10 then line ascii-C 0 origin now
+    else if code =? 11 then line ascii-W number origin now
+    else if code =? 12 then line ascii-K number origin now
+    else if code =? 13 then line ascii-k number origin now
+    else if code =? 16 then line ascii-E number origin now
     else Silent
 
 -- a later Drag of a touch whose axis is locked
 unfoldable pub isLaterDrag : ℕ → AxisLock → Bool
-isLaterDrag code before = (code =? 3) and isLocked before
+isLaterDrag code before = (code =? drag) and isLocked before

@@ -4,6 +4,7 @@ pub mod Trackers
 pub mod States
 pub mod Reports
 pub mod Ticks
+pub mod Letters
 pub mod Lines
 pub mod Captures
 pub mod Answers

@@ -5,8 +5,6 @@
 -- E (1, 0), else argument 0. No point means (0,0); the time is the call's. `event` logs no Move or Pinch, and a Drag only if
 -- no axis was locked before. Nothing at a one-finger release: N, its note, p1; a new residual: N, 250, its point. A
 -- `capture` that takes: c, argument raw, time 0, last point."
---
--- Letters are their ASCII numbers.
 use Prim.Native.Nat.{ℕ}
 use mathlib.Core.Bool.{Bool, true, false}
 use Rattle.panel.specs.Tests.{if_then_else_, _and_}
@@ -19,6 +17,7 @@ use Rattle.fingers.specs.declared.gestures.Gesture.{Gesture}
 use Rattle.fingers.specs.declared.gestures.Gesture.the-variants.{Down, Tap, LongPress, Drag, Grab, Up, SwipeLeft, SwipeRight, SwipeUp, SwipeDown, Cancel, MultiSwipeDown, KeyDown, KeyUp, Move, Pinch, PinchEnd}
 use Rattle.fingers.specs.declared.gestures.Outcome.{Outcome}
 use Rattle.fingers.specs.declared.gestures.Outcome.the-variants.{Quiet, Noted, Gives}
+use Rattle.gesture.specs.Letters.{ascii-D, ascii-T, ascii-L, ascii-M, ascii-G, ascii-U, ascii-less, ascii-greater, ascii-caret, ascii-v, ascii-C, ascii-W, ascii-K, ascii-k, ascii-E, ascii-N, ascii-c}
 use Rattle.gesture.specs.Trackers.{origin}
 use Rattle.gesture.specs.declared.lines.Log.{Log}
 use Rattle.gesture.specs.declared.lines.Log.the-variants.{Silent, Logged}
@@ -36,23 +35,23 @@ bit false = 0
 
 -- the table; Move and Pinch are not logged
 unfoldable pub gestureLine : Gesture → ℕ → Log
-gestureLine (Down p) now = line 68 0 p now
-gestureLine (Tap p) now = line 84 0 p now
-gestureLine (LongPress p) now = line 76 0 p now
-gestureLine (Drag start p a) now = line 77 (axisNumber a) p now
-gestureLine (Grab p) now = line 71 0 p now
-gestureLine (Up p) now = line 85 0 p now
-gestureLine SwipeLeft now = line 60 0 origin now
-gestureLine SwipeRight now = line 62 0 origin now
-gestureLine SwipeUp now = line 94 0 origin now
-gestureLine SwipeDown now = line 118 0 origin now
-gestureLine Cancel now = line 67 0 origin now
-gestureLine (MultiSwipeDown n) now = line 87 n origin now
-gestureLine (KeyDown key) now = line 75 key origin now
-gestureLine (KeyUp key) now = line 107 key origin now
+gestureLine (Down p) now = line ascii-D 0 p now
+gestureLine (Tap p) now = line ascii-T 0 p now
+gestureLine (LongPress p) now = line ascii-L 0 p now
+gestureLine (Drag start p a) now = line ascii-M (axisNumber a) p now
+gestureLine (Grab p) now = line ascii-G 0 p now
+gestureLine (Up p) now = line ascii-U 0 p now
+gestureLine SwipeLeft now = line ascii-less 0 origin now
+gestureLine SwipeRight now = line ascii-greater 0 origin now
+gestureLine SwipeUp now = line ascii-caret 0 origin now
+gestureLine SwipeDown now = line ascii-v 0 origin now
+gestureLine Cancel now = line ascii-C 0 origin now
+gestureLine (MultiSwipeDown n) now = line ascii-W n origin now
+gestureLine (KeyDown key) now = line ascii-K key origin now
+gestureLine (KeyUp key) now = line ascii-k key origin now
 gestureLine (Move prev p) now = Silent
 gestureLine (Pinch a span0 span) now = Silent
-gestureLine (PinchEnd released) now = line 69 (bit released) origin now
+gestureLine (PinchEnd released) now = line ascii-E (bit released) origin now
 
 unfoldable pub isLocked : AxisLock → Bool
 isLocked Free = false
@@ -81,17 +80,15 @@ isDrag (PinchEnd released) = false
 unfoldable pub reportGestureLine : Gesture → AxisLock → ℕ → Log
 reportGestureLine g before now = if isDrag g and isLocked before then Silent else gestureLine g now
 
--- 78 is N
 unfoldable pub reportLine : Outcome → AxisLock → ℕ → Log
 reportLine Quiet before now = Silent
-reportLine (Noted note p) before now = line 78 note p now
+reportLine (Noted note p) before now = line ascii-N note p now
 reportLine (Gives g) before now = reportGestureLine g before now
 
 unfoldable pub tickLine : Outcome → ℕ → Log
 tickLine Quiet now = Silent
-tickLine (Noted note p) now = line 78 note p now
+tickLine (Noted note p) now = line ascii-N note p now
 tickLine (Gives g) now = gestureLine g now
 
--- 99 is c
 unfoldable pub captureLine : Bool → Point → Log
-captureLine raw last = line 99 (bit raw) last 0
+captureLine raw last = line ascii-c (bit raw) last 0

@@ -4,7 +4,7 @@ use mathlib.Core.Bool.{Bool, true}
 use Rattle.panel.specs.Tests.{_and_, _≤?_, _<?_}
 use Rattle.panel.specs.Sizes.{width, maxPoints}
 use Rattle.panel.specs.Points.{onPanel}
-use Rattle.fingers.specs.Sizes.{grabMost}
+use Rattle.fingers.specs.Sizes.{grabMost, fewest}
 use Rattle.fingers.specs.Pairs.{noPinch}
 use Rattle.fingers.specs.declared.one.One.{One}
 use Rattle.fingers.specs.declared.pair.Pair.{Pair}
@@ -33,7 +33,7 @@ unfoldable pub multiPlaces : several.Multi → Bool
 multiPlaces m = onPanel (m .c0) and onPanel (m .c1)
 
 unfoldable pub multiPart : several.Multi → Bool
-multiPart m = (2 ≤? m .n) and (m .n ≤? maxPoints) and multiPlaces m
+multiPart m = (fewest ≤? m .n) and (m .n ≤? maxPoints) and multiPlaces m
 
 unfoldable pub severalPart : several.Multi → Pairing → Bool
 severalPart m pair = multiPart m and pairingPart pair

@@ -11,7 +11,7 @@ use Rattle.panel.specs.Tests.{_and_, _or_, _≤?_, _<?_}
 use Rattle.panel.specs.Sizes.{width, maxPoints}
 use Rattle.panel.specs.Points.{allOnPanel}
 use Rattle.panel.specs.declared.points.Point.{Point}
-use Rattle.fingers.specs.Sizes.{grabMost}
+use Rattle.fingers.specs.Sizes.{grabMost, fewest}
 use Rattle.fingers.specs.Pairs.{noPinch}
 use Rattle.fingers.specs.declared.one.One.{One}
 use Rattle.fingers.specs.declared.pair.Pairing.the-variants.{Unpaired, Paired}
@@ -54,7 +54,7 @@ pairRule Residual = true
 unfoldable pub mostRule : Touch → Bool
 mostRule Idle = true
 mostRule (Down start since) = true
-mostRule (Multi m pair) = (2 ≤? m .n) and (m .n ≤? maxPoints)
+mostRule (Multi m pair) = (fewest ≤? m .n) and (m .n ≤? maxPoints)
 mostRule Residual = true
 
 -- "raw needs captured"

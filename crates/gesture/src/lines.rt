@@ -73,7 +73,7 @@ fn code_of(g: Gesture) -> Coded
         Gesture::Down(p) => coded_as(0, 0, p),
         Gesture::Tap(p) => coded_as(1, 0, p),
         Gesture::LongPress(p) => coded_as(2, 0, p),
-        Gesture::Drag(_, p, a) => coded_as(3, axis_number(a), p),
+        Gesture::Drag(_, p, a) => coded_as(DRAG, axis_number(a), p),
         Gesture::Grab(p) => coded_as(4, 0, p),
         Gesture::Up(p) => coded_as(5, 0, p),
         Gesture::SwipeLeft => coded_as(6, 0, z),
