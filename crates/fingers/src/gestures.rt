@@ -1,0 +1,42 @@
+// The gestures, with the Rust's names and field order, and what one step of the tracker comes to.
+use panel::Axis;
+use panel::Point;
+
+pub enum Gesture {
+    // Finger down, for immediate feedback.
+    Down(Point),
+    Tap(Point),
+    LongPress(Point),
+    // Finger moved while down: start, current point, locked axis.
+    Drag(Point, Point, Axis),
+    // Hold-to-grab only: the finger was held still for the grab time, a drag may follow.
+    Grab(Point),
+    // Release of a captured touch: the app owned it, so that it is no tap and no swipe.
+    Up(Point),
+    SwipeLeft,
+    SwipeRight,
+    SwipeUp,
+    SwipeDown,
+    // A second finger landed during a one-finger touch: undo what its Down and Drag did.
+    Cancel,
+    // That many fingers swiped down.
+    MultiSwipeDown(u8),
+    // A side key went down or up: its number, 0 to 7.
+    KeyDown(u8),
+    KeyUp(u8),
+    // Raw-move touch: from the previous report's point to this one.
+    Move(Point, Point),
+    // Axis of the finger pair, its separation along it at the start and now, pixels.
+    Pinch(Axis, u16, u16),
+    // Pinch over: released (true), or abandoned for a third finger (false).
+    PinchEnd(bool),
+}
+
+// What a step comes to.
+pub enum Outcome {
+    // Nothing, and nothing to log.
+    Quiet,
+    // Nothing, and a note for the log of why, with a point.
+    Noted(u8, Point),
+    Gives(Gesture),
+}

@@ -1,0 +1,58 @@
+-- Every call on a tracker that keeps the state rule leaves one that keeps it, and the fresh tracker keeps it: a run from a
+-- fresh tracker never meets STATE. Assumes nothing.
+use mathlib.Core.Path.{_≡_}
+use mathlib.Core.Bool.{Bool, true}
+use Prim.Native.Nat.{ℕ}
+use native.Mathlib.Omega.{arith}
+use Rattle.panel.specs.declared.points.Event.{Event}
+use Rattle.fingers.proofs.Kept.{if-all, reset-fine, captured-fine, direct-fine}
+use Rattle.gesture.specs.States.{stateRule}
+use Rattle.gesture.specs.Trackers.{origin, freshTracker, setOne, setGrab}
+use Rattle.gesture.specs.Captures.{taken, wished, afterCaptureDirect, afterSetGrab}
+use Rattle.gesture.specs.Answers.{refused, answered, reported, ticked, captured, eventOf, tickOf, captureOf, captureDirectOf, rawNextOf, setGrabOf, grabOf}
+use Rattle.gesture.specs.declared.record.Tracker.{Tracker}
+use Rattle.gesture.specs.declared.answers.Answer.{Answer}
+use Rattle.gesture.specs.declared.answers.GrabAnswer.{GrabAnswer}
+use Rattle.gesture.proofs.Facts.{facts, kept}
+use Rattle.gesture.proofs.Steps.{if-know, origin-on, report-fine, tick-fine}
+
+pub fresh-kept : stateRule freshTracker ≡ true
+unfolding freshTracker
+fresh-kept = kept freshTracker (tt, reset-fine origin origin-on, omega arith)
+
+abbrev Kept : Answer → Type 0
+Kept a = stateRule (a .tracker) ≡ true
+
+pub event-kept : (t : Tracker) (ev : Event) (now : ℕ) → stateRule t ≡ true → Kept (eventOf t ev now)
+unfolding eventOf reported answered refused
+event-kept t ev now h = if-all Kept _ (if-know Kept _ (λ on. kept _ (report-fine t ev now (facts t h) on)) (λ off. h)) h
+
+pub tick-kept : (t : Tracker) (now : ℕ) → stateRule t ≡ true → Kept (tickOf t now)
+unfolding tickOf ticked answered refused
+tick-kept t now h = if-all Kept _ (kept _ (tick-fine t now (facts t h))) h
+
+pub capture-kept : (t : Tracker) → stateRule t ≡ true → Kept (captureOf t)
+unfolding captureOf captured answered refused taken wished setOne
+capture-kept t h =
+    let f = facts t h in
+    if-all Kept _ (if-all Kept _ (kept _ (f .0, captured-fine (t .one) (t .«raw_next») (f .1), f .2)) (kept _ f)) h
+
+pub capture-direct-kept : (t : Tracker) → stateRule t ≡ true → Kept (captureDirectOf t)
+unfolding captureDirectOf answered refused afterCaptureDirect wished setOne
+capture-direct-kept t h =
+    let f = facts t h in
+    if-all Kept _ (if-all (λ (s : Tracker). stateRule s ≡ true) _ (kept _ (f .0, direct-fine (t .one) (f .1), f .2)) (kept _ f)) h
+
+pub raw-next-kept : (t : Tracker) (on : Bool) → stateRule t ≡ true → Kept (rawNextOf t on)
+unfolding rawNextOf answered refused wished setOne
+raw-next-kept t on h = if-all Kept _ (kept _ (facts t h)) h
+
+pub set-grab-kept : (t : Tracker) (ms : ℕ) → stateRule t ≡ true → Kept (setGrabOf t ms)
+unfolding setGrabOf answered refused afterSetGrab setGrab
+set-grab-kept t ms h =
+    let f = facts t h in
+    if-all Kept _ (kept _ (f .0, f .1, omega arith)) h
+
+pub grab-kept : (t : Tracker) → stateRule t ≡ true → Kept (grabOf t .answer)
+unfolding grabOf answered refused
+grab-kept t h = if-all (λ (a : GrabAnswer). Kept (a .answer)) _ h h

@@ -1,0 +1,9 @@
+-- What the crates above may cite: `Keeps`, that every call keeps the state rule, and `Promises`, what each call tells. The
+-- other modules serve this crate's own proofs.
+pub mod Keeps
+pub mod Promises
+pub mod Rule
+mod Facts
+mod Steps
+mod Counts
+mod Table

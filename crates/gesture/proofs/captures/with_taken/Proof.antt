@@ -1,0 +1,18 @@
+use Rattle.panel.proofs.Follow.{follow}
+use Rattle.gesture.specs.Captures.{taken}
+use borrow.Author.Needs.{needs}
+use Rattle.gesture.proofs.captures.with_taken.Statement.{statement}
+use Rattle.gesture.proofs.captures.with_taken.Tie as tie
+
+with-capture-requires : tie.Need-with-capture-requires
+with-capture-requires c κs = search needs
+
+with-one-requires : tie.Need-with-one-requires
+with-one-requires c κs = search needs
+
+returns : tie.Need-returns
+unfolding taken
+returns c = search (follow, ← c .with-one .ensures, ← c .before .with-capture .ensures)
+
+pub with-taken-spec : {M : Type 1} → statement M
+with-taken-spec = tie.close (tie.spec with-capture-requires with-one-requires returns)

@@ -1,0 +1,45 @@
+use Rattle.panel.proofs.Follow.{follow}
+use Rattle.gesture.specs.Lines.{tickLine}
+use borrow.Author.Needs.{needs}
+use Rattle.gesture.proofs.lines.tick_line.Statement.{statement}
+use Rattle.gesture.proofs.lines.tick_line.Tie as tie
+
+enum-told : tie.Need-enum-told
+enum-told c = search needs
+
+enum-known-out : tie.Need-enum-known-out
+enum-known-out c = search needs
+
+logged-requires : tie.Need-logged-requires
+logged-requires c κs = search needs
+
+enum-known-out-2 : tie.Need-enum-known-out-2
+enum-known-out-2 c = search needs
+
+log-gesture-requires : tie.Need-log-gesture-requires
+log-gesture-requires c κs = search needs
+
+returns : tie.Need-returns
+unfolding tickLine
+returns c = search (follow, c .enum-told .given .1)
+
+returns-2 : tie.Need-returns-2
+unfolding tickLine
+returns-2 c = search (follow, ← c .logged .ensures, c .before .before .out .given .1)
+
+returns-3 : tie.Need-returns-3
+unfolding tickLine
+returns-3 c = search (follow, ← c .log-gesture .ensures, c .before .before .out2 .given .1)
+
+pub tick-line-spec : {M : Type 1} → statement M
+tick-line-spec =
+    tie.close
+    (tie.spec
+    enum-told
+    enum-known-out
+    logged-requires
+    enum-known-out-2
+    log-gesture-requires
+    returns
+    returns-2
+    returns-3)

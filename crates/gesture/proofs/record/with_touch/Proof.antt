@@ -1,0 +1,11 @@
+use Rattle.panel.proofs.Follow.{follow}
+use Rattle.gesture.specs.Trackers.{setTouch}
+use Rattle.gesture.proofs.record.with_touch.Statement.{statement}
+use Rattle.gesture.proofs.record.with_touch.Tie as tie
+
+returns : tie.Need-returns
+unfolding setTouch
+returns c = search follow
+
+pub with-touch-spec : {M : Type 1} → statement M
+with-touch-spec = tie.close (tie.spec returns)

@@ -1,0 +1,60 @@
+use Rattle.gesture.proofs.Counts.{fingers-few, fingers-many}
+use Rattle.panel.proofs.Follow.{follow}
+use Rattle.gesture.specs.Reports.{fingersOf}
+use borrow.Author.Needs.{needs}
+use Rattle.gesture.proofs.reports.by_count.Statement.{statement}
+use Rattle.gesture.proofs.reports.by_count.Tie as tie
+
+all-up-requires : tie.Need-all-up-requires
+all-up-requires c κs = search needs
+
+one-finger-requires : tie.Need-one-finger-requires
+one-finger-requires c κs = search needs
+
+two-of-requires : tie.Need-two-of-requires
+two-of-requires c κs = search needs
+
+more-of-requires : tie.Need-more-of-requires
+more-of-requires c κs = search needs
+
+cast-more-of : tie.Need-cast-more-of
+cast-more-of c = search needs
+
+more-of-requires-2 : tie.Need-more-of-requires-2
+more-of-requires-2 c κs = search needs
+
+returns : tie.Need-returns
+unfolding fingersOf
+returns c = search (follow, ← c .all-up .ensures, c .before .match .keys1)
+
+returns-2 : tie.Need-returns-2
+unfolding fingersOf
+returns-2 c = search (follow, ← c .one-finger .ensures, c .before .match .keys2)
+
+returns-3 : tie.Need-returns-3
+unfolding fingersOf
+returns-3 c = search (follow, ← c .two-of .ensures, c .before .match .keys3)
+
+returns-4 : tie.Need-returns-4
+unfolding fingersOf
+returns-4 c = search (follow, ← c .more-of .ensures, fingers-few _ (c .before .if1 .taken))
+
+returns-5 : tie.Need-returns-5
+unfolding fingersOf
+returns-5 c = search (follow, ← c .more-of2 .ensures, fingers-many _ (c .before .if1 .left))
+
+pub by-count-spec : {M : Type 1} → statement M
+by-count-spec =
+    tie.close
+    (tie.spec
+    all-up-requires
+    one-finger-requires
+    two-of-requires
+    more-of-requires
+    cast-more-of
+    more-of-requires-2
+    returns
+    returns-2
+    returns-3
+    returns-4
+    returns-5)

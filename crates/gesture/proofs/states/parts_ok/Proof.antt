@@ -1,0 +1,26 @@
+use Rattle.panel.proofs.Follow.{follow}
+use Rattle.gesture.specs.Parts.{allParts}
+use borrow.Author.Needs.{needs}
+use Rattle.gesture.proofs.states.parts_ok.Statement.{statement}
+use Rattle.gesture.proofs.states.parts_ok.Tie as tie
+
+touch-ok-requires : tie.Need-touch-ok-requires
+touch-ok-requires c κs = search needs
+
+one-ok-requires : tie.Need-one-ok-requires
+one-ok-requires c κs = search needs
+
+returns : tie.Need-returns
+unfolding allParts
+returns c = search (follow, ← c .before .before .one-ok .ensures, ← c .before .before .before .before .touch-ok .ensures)
+
+returns-2 : tie.Need-returns-2
+unfolding allParts
+returns-2 c = search (follow, ← c .before .one-ok .ensures, ← c .before .before .before .touch-ok .ensures)
+
+returns-3 : tie.Need-returns-3
+unfolding allParts
+returns-3 c = search (follow, ← c .before .touch-ok .ensures)
+
+pub parts-ok-spec : {M : Type 1} → statement M
+parts-ok-spec = tie.close (tie.spec touch-ok-requires one-ok-requires returns returns-2 returns-3)

@@ -1,0 +1,15 @@
+use Rattle.panel.proofs.Follow.{follow}
+use Rattle.gesture.specs.States.{rawRule}
+use Rattle.gesture.proofs.states.raw_ok.Statement.{statement}
+use Rattle.gesture.proofs.states.raw_ok.Tie as tie
+
+returns : tie.Need-returns
+unfolding rawRule
+returns c = search follow
+
+returns-2 : tie.Need-returns-2
+unfolding rawRule
+returns-2 c = search follow
+
+pub raw-ok-spec : {M : Type 1} → statement M
+raw-ok-spec = tie.close (tie.spec returns returns-2)

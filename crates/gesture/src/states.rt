@@ -1,0 +1,141 @@
+// The state rule of the tracker, tested part by part. What the types rule out by themselves (two touches at a
+// time, a pair without several fingers) needs no test.
+ghost use mathlib.Core.Path.{_≡_};
+ghost use Rattle.gesture.specs.Parts.{onePart, pairPlaces, pairPart, pairingPart, multiPlaces, multiPart, severalPart, touchPart, allParts};
+ghost use Rattle.gesture.specs.States.{rawRule, stateRule};
+use crate::record::Touch;
+use crate::record::Tracker;
+use fingers::GRAB_MOST_MS;
+use fingers::Multi;
+use fingers::One;
+use fingers::Pair;
+use fingers::Pairing;
+use panel::WIDTH;
+
+// The largest pair state.
+const STATE_MOST: u8 = 2;
+
+// The fewest and the most fingers of a touch of several.
+const FINGERS_LEAST: u8 = 2;
+
+const FINGERS_MOST: u8 = 5;
+
+// A raw-move touch is the app's.
+fn raw_ok(o: One) -> bool
+    ensures { λ r. ⌜ r ≡ rawRule o ⌝ }
+{
+    if o.raw {
+        return o.captured;
+    }
+    true
+}
+
+fn one_ok(o: One) -> bool
+    ensures { λ r. ⌜ r ≡ onePart o ⌝ }
+{
+    let last = o.last;
+    if panel::on_panel(last) {
+        if o.far < WIDTH {
+            return raw_ok(o);
+        }
+        return false;
+    }
+    false
+}
+
+fn places_ok(r: Pair) -> bool
+    ensures { λ s. ⌜ s ≡ pairPlaces r ⌝ }
+{
+    let a = r.a;
+    let b = r.b;
+    let c0 = r.c0;
+    if panel::on_panel(a) {
+        if panel::on_panel(b) {
+            return panel::on_panel(c0);
+        }
+        return false;
+    }
+    false
+}
+
+fn pair_ok(r: Pair) -> bool
+    ensures { λ s. ⌜ s ≡ pairPart r ⌝ }
+{
+    if places_ok(r) {
+        return r.span0 < WIDTH && r.state <= STATE_MOST;
+    }
+    false
+}
+
+fn pairing_ok(pr: Pairing) -> bool
+    ensures { λ r. ⌜ r ≡ pairingPart pr ⌝ }
+{
+    match pr {
+        Pairing::Unpaired => true,
+        Pairing::Paired(r) => pair_ok(r),
+    }
+}
+
+fn centroids_ok(m: Multi) -> bool
+    ensures { λ r. ⌜ r ≡ multiPlaces m ⌝ }
+{
+    let c0 = m.c0;
+    let c1 = m.c1;
+    if panel::on_panel(c0) {
+        return panel::on_panel(c1);
+    }
+    false
+}
+
+fn multi_ok(m: Multi) -> bool
+    ensures { λ r. ⌜ r ≡ multiPart m ⌝ }
+{
+    if FINGERS_LEAST <= m.n {
+        if m.n <= FINGERS_MOST {
+            return centroids_ok(m);
+        }
+        return false;
+    }
+    false
+}
+
+fn several_ok(m: Multi, pr: Pairing) -> bool
+    ensures { λ r. ⌜ r ≡ severalPart m pr ⌝ }
+{
+    if multi_ok(m) {
+        return pairing_ok(pr);
+    }
+    false
+}
+
+fn touch_ok(touch: Touch) -> bool
+    ensures { λ r. ⌜ r ≡ touchPart touch ⌝ }
+{
+    match touch {
+        Touch::Idle => true,
+        Touch::Down(p0, _) => panel::on_panel(p0),
+        Touch::Multi(m, pr) => several_ok(m, pr),
+        Touch::Residual => true,
+    }
+}
+
+fn parts_ok(t: Tracker) -> bool
+    ensures { λ r. ⌜ r ≡ allParts t ⌝ }
+{
+    let touch = t.touch;
+    let one = t.one;
+    if touch_ok(touch) {
+        if one_ok(one) {
+            return t.grab_ms <= GRAB_MOST_MS;
+        }
+        return false;
+    }
+    false
+}
+
+// Whether the tracker keeps the rules of its state.
+pub fn state_ok(t: Tracker) -> bool
+    ensures { λ r. ⌜ r ≡ stateRule t ⌝ }
+{
+    parts_ok(t)
+}
