@@ -9,24 +9,24 @@ use lib.Count.{trailingZeros}
 use Rattle.fingers.specs.Sizes.{keyCount}
 use Rattle.fingers.specs.Keys.{lowest}
 
-abbrev both : Bool → Bool → Bool
+abbrev pub both : Bool → Bool → Bool
 both true b = b
 both false b = false
 
-both-left : (a b : Bool) → T (both a b) → T a
+pub both-left : (a b : Bool) → T (both a b) → T a
 both-left true b t = tt
 both-left false b t = t
 
-both-right : (a b : Bool) → T (both a b) → T b
+pub both-right : (a b : Bool) → T (both a b) → T b
 both-right true b t = t
 both-right false b t = absurd t
 
 -- f holds below n
-abbrev every : (ℕ → Bool) → ℕ → Bool
+abbrev pub every : (ℕ → Bool) → ℕ → Bool
 every f zero = true
 every f (suc n) = both (f n) (every f n)
 
-below : (f : ℕ → Bool) (n : ℕ) → T (every f n) → (k : ℕ) → k < n → T (f k)
+pub below : (f : ℕ → Bool) (n : ℕ) → T (every f n) → (k : ℕ) → k < n → T (f k)
 below f zero t k h = absurd (not-suc-le-zero h)
 below f (suc n) t k h =
     ⊎-elim (λ e. subst (λ (m : ℕ). T (f m)) (sym e) (both-left (f n) (every f n) t))

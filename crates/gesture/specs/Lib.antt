@@ -10,3 +10,4 @@ pub mod Captures
 pub mod Answers
 pub mod Parts
 pub mod Codes
+pub mod Calls
