@@ -1,0 +1,51 @@
+use borrow.Author.Needs.{needs}
+use Rattle.trace.proofs.Spotting.{report-is}
+use Rattle.trace.proofs.records.report_from.Statement.{statement}
+use Rattle.trace.proofs.records.report_from.Tie as tie
+
+next-number-requires : tie.Need-next-number-requires
+next-number-requires c κs = search needs
+
+next-number-requires-2 : tie.Need-next-number-requires-2
+next-number-requires-2 c κs = search needs
+
+next-number-requires-3 : tie.Need-next-number-requires-3
+next-number-requires-3 c κs = search needs
+
+cast-fingers : tie.Need-cast-fingers
+cast-fingers c = search needs
+
+in-use-requires : tie.Need-in-use-requires
+in-use-requires c κs = search needs
+
+points-from-requires : tie.Need-points-from-requires
+points-from-requires c κs = search needs
+
+cast-event-with : tie.Need-cast-event-with
+cast-event-with c = search needs
+
+event-with-requires : tie.Need-event-with-requires
+event-with-requires c κs = search needs
+
+close-requires : tie.Need-close-requires
+close-requires c κs = search needs
+
+returns : tie.Need-returns
+returns c =
+    let ps = c .before .before .before .before .points-from .ensures in
+    report-is _ _ _ _ _ _ _ _ _ _ (c .before .before .before .before .before .before .before .before .before .next-number .ensures .0) (c .before .before .before .before .before .before .before .before .next-number2 .ensures .0) (c .before .before .before .before .before .before .before .next-number3 .ensures .0) (c .before .before .before .before .before .in-use .ensures .0) (ps .0) (ps .1) (c .before .event-with .ensures) (c .close .ensures)
+
+pub report-from-spec : {M : Type 1} → statement M
+report-from-spec =
+    tie.close
+    (tie.spec
+    next-number-requires
+    next-number-requires-2
+    next-number-requires-3
+    cast-fingers
+    in-use-requires
+    points-from-requires
+    cast-event-with
+    event-with-requires
+    close-requires
+    returns)
