@@ -1,6 +1,7 @@
 // Runs the worked cases of document 01 on the proved functions and prints a line for each: the call,
 // its arguments, and what it answers. The file `stdout` beside src/ has what it must print, worked out
 // from the document and not from a run.
+mod calibration;
 mod geometry;
 mod print;
 
@@ -8,4 +9,7 @@ fn main() {
     geometry::distances();
     geometry::centroids();
     geometry::axes();
+    calibration::checks();
+    calibration::roots();
+    calibration::fits();
 }
