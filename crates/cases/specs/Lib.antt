@@ -1,0 +1,2 @@
+-- What a reader must believe about the starred cases.
+pub mod Starred
