@@ -3,7 +3,7 @@
 pub mod Keeps
 pub mod Promises
 pub mod Cases
-pub mod Rule
+mod Rule
 mod Facts
 mod Steps
 mod Counts
