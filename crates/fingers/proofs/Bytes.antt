@@ -22,11 +22,11 @@ both-right true b t = t
 both-right false b t = absurd t
 
 -- f holds below n
-abbrev every : (ℕ → Bool) → ℕ → Bool
+abbrev pub every : (ℕ → Bool) → ℕ → Bool
 every f zero = true
 every f (suc n) = both (f n) (every f n)
 
-below : (f : ℕ → Bool) (n : ℕ) → T (every f n) → (k : ℕ) → k < n → T (f k)
+pub below : (f : ℕ → Bool) (n : ℕ) → T (every f n) → (k : ℕ) → k < n → T (f k)
 below f zero t k h = absurd (not-suc-le-zero h)
 below f (suc n) t k h =
     ⊎-elim (λ e. subst (λ (m : ℕ). T (f m)) (sym e) (both-left (f n) (every f n) t))
