@@ -1,6 +1,8 @@
--- What the crates above may cite: `Bytes`, what the lowest key of a mask is, `Kept`, what the rules keep, and `Promises`,
--- that each contract leaves one answer. The other module serves this crate's own proofs.
+-- What the crates above may cite: `Bytes` and `KeyMasks`, what the lowest key of a mask is and what the masks hold key by
+-- key; `Kept`, what the rules keep; `Promises`, that each contract leaves one answer. The other module serves this crate's
+-- own proofs.
 pub mod Bytes
+pub mod KeyMasks
 pub mod Kept
 pub mod Promises
 mod Measures

@@ -2,7 +2,7 @@
 -- other modules serve this crate's own proofs.
 pub mod Keeps
 pub mod Promises
-pub mod Rule
+mod Rule
 mod Facts
 mod Steps
 mod Counts
