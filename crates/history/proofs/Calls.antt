@@ -267,9 +267,6 @@ module _ (t : Tracker) (s : Seen) (i : Together t s) where
   abbrev Quiet : Answer → Type 0
   Quiet a = (a .refusal ≡ 0) × (a .gesture ≡ Nothing) × Leaves t (a .tracker)
 
-  as-is : Leaves t t
-  as-is = record { keys = refl; want = refl; touch = refl; end = refl }
-
   quiet-of : (b : Bool) (x y : Answer) → b ≡ true → Quiet x → Quiet (if_then_else_ b x y)
   quiet-of b x y e q = subst Quiet (sym (if-true b x y e)) q
 

@@ -12,7 +12,7 @@ use Rattle.fingers.specs.OneFinger.{earlyNow, tracked, samePoint, moveFrom, axi
 use Rattle.fingers.specs.Pairs.{spanAlong, pairAxis, newPair, keepsOrder, stateNext, pairAt, pairNext, spanTold, pinchOf}
 use Rattle.fingers.specs.Releases.{tapOrNote, isSwipe, swipeOrNote, releaseBy, releaseOf}
 use Rattle.fingers.specs.Several.{multiFrom, multiGrown, multiSeen, pinchOrSeen, twoFingers, pinchEndOrSeen, threeFingers, farDown, swipedDown, multiRule, isPinch, multiEnd}
-use Rattle.fingers.specs.declared.gestures.Gesture.the-variants.{Down, Tap, LongPress, Drag, Up, Cancel, MultiSwipeDown, KeyDown, KeyUp, Pinch, PinchEnd}
+use Rattle.fingers.specs.declared.gestures.Gesture.the-variants.{Down, Tap, Drag, Up, Cancel, MultiSwipeDown, KeyDown, KeyUp, Pinch, PinchEnd}
 use Rattle.gesture.specs.Answers.{answered, givenBy, pointsInUse, reported, eventOf, ticked, tickOf, captured, captureOf, captureDirectOf, rawNextOf, setGrabOf}
 use Rattle.gesture.specs.Calls.{Call, report, tick, capture, captureDirect, rawNext, setGrabMs}
 use Rattle.gesture.specs.Captures.{takes, taken, wished, afterCaptureDirect, afterSetGrab}
@@ -97,6 +97,14 @@ pub record Worked : Type 0 where
       Hears
       (noFinger 1 0 ∷ oneAt 6 (at 5 5) 1 ∷ capture ∷ tick 2 ∷ setGrabMs 100 ∷ rawNext true ∷ oneAt 6 (at 5 5) 3 ∷ oneAt 6 (at 5 5) 4 ∷ captureDirect ∷ noFinger 6 5 ∷ [])
       (Gave (KeyDown 0) ∷ Gave (KeyUp 0) ∷ Nothing ∷ Gave (KeyDown 1) ∷ Nothing ∷ Nothing ∷ Gave (KeyDown 2) ∷ Gave (Down (at 5 5)) ∷ Nothing ∷ Gave (Up (at 5 5)) ∷ [])
+  -- a later report does not repeat the mask: the change that was left is never told
+  pub mask-not-repeated :
+      Hears (noFinger 6 0 ∷ noFinger 0 1 ∷ tick 2 ∷ noFinger 0 3 ∷ [])
+      (Gave (KeyDown 1) ∷ Gave (KeyUp 1) ∷ Nothing ∷ Nothing ∷ [])
+  -- a second report of none is no release: 300 ms are counted from the first
+  pub none-again :
+      Hears (twoAt 0 (at 100 100) (at 200 100) 0 ∷ noFinger 0 100 ∷ noFinger 0 350 ∷ oneAt 0 (at 5 5) 400 ∷ [])
+      (Nothing ∷ Nothing ∷ Nothing ∷ Gave (Down (at 5 5)) ∷ [])
   -- the trace of document 01
   pub document-trace :
       Hears
@@ -117,5 +125,7 @@ worked-histories = record {
   residual-gains = refl;
   second-finger = refl;
   keys-at-once = refl;
+  mask-not-repeated = refl;
+  none-again = refl;
   document-trace = refl;
 }

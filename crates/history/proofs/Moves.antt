@@ -3,11 +3,12 @@ use Prim.Native.Nat.{ℕ, _+_, _-_}
 use mathlib.Core.Path.{_≡_, refl, sym, ap, subst, _∙_}
 use mathlib.Core.Bool.{Bool, true, false, not, true≢false}
 use native.Mathlib.Omega.{arith}
-use lib.Dec.{ltb}
 use borrow.Author.Tests.{ltb-true, ltb-false, lt-ltb, le-ltb, eq-eqb, ne-eqb}
 use Rattle.fingers.proofs.Kept.{if-all}
+use Rattle.fingers.specs.Sizes.{liftGap}
 use Rattle.fingers.specs.declared.gestures.Gesture.the-variants.{Down}
 use Rattle.fingers.specs.declared.gestures.Outcome.{Outcome}
+use Rattle.fingers.specs.declared.gestures.Outcome.the-variants.{Quiet}
 use Rattle.fingers.specs.declared.several.MultiStep.{MultiStep}
 use Rattle.gesture.specs.Answers.{givenBy}
 use Rattle.gesture.specs.Reports.{upOutcome, endStored, allUp, isLastFinger, residualTouch, newTouch, touchDown, goesOn, oneFinger, twoStart, two, moreStart, more, twoOf, moreOf, fingersOf}
@@ -22,13 +23,13 @@ use Rattle.gesture.specs.declared.record.Touch as record-touch
 use Rattle.gesture.specs.declared.record.Touch.the-variants as touch
 use Rattle.gesture.specs.declared.record.Tracker.{Tracker}
 use Rattle.panel.proofs.Follow.{if-true, if-false, if-know, if-two}
-use Rattle.panel.specs.Tests.{if_then_else_, _and_, _or_}
+use Rattle.panel.specs.Tests.{_and_, _or_, _<?_}
 use Rattle.panel.specs.Tests as tests
 use Rattle.panel.specs.declared.points.Event.{Event}
 use Rattle.panel.specs.declared.points.Point.{Point}
 use Rattle.history.specs.Demand.{hadSeveral, SeveralSilent, exceptedWithOne, exceptedNeverMore, ExceptedSilent}
 use Rattle.history.specs.Gestures.{tellsKey, tellsKeysOnly}
-use Rattle.history.specs.Touches.{Touch, On, off, on, Before, plain, manyUntil, Seen, close, withOne, withSeveral, over, counted}
+use Rattle.history.specs.Touches.{gap, Touch, On, off, on, Before, plain, manyUntil, Seen, close, withOne, withSeveral, over, counted}
 use Rattle.history.proofs.Plain.{NoOne, later-plain, still-plain, release-plain, end-plain, two-plain, three-plain}
 
 -- The touch that the tracker holds, and the one that is seen.
@@ -60,6 +61,11 @@ pub record Moved (t : Tracker) (s : Seen) (out : Outcome) (t′ : Tracker) (s′
   pub end : EndFits (t′ .touch) (t′ .«multi_end») (s′ .before)
   pub several : SeveralSilent (s .touch) (s′ .touch) (givenBy out)
   pub excepted : ExceptedSilent (s .touch) (s′ .touch) (givenBy out)
+
+-- nothing is given and the tracker stays, while s′ is seen
+quiet-moved : (t : Tracker) (s s′ : Seen) → s′ .keys ≡ s .keys → Fits (t .touch) (s′ .touch) → EndFits (t .touch) (t .«multi_end») (s′ .before) → Moved t s Quiet t s′
+unfolding givenBy
+quiet-moved t s s′ k f e = record { no-key = refl; keys = refl; want = refl; seen = k; touch = f; end = e; several = λ h. refl; excepted = λ h. refl }
 
 no-way : {P : Type 0} → true ≡ false → P
 no-way e = absurd (true≢false e)
@@ -164,19 +170,19 @@ one-several off b now e = no-way (sym e)
 one-several (on u) b now e = e
 
 -- "under 300 ms back or ahead of the clock": on ℕ a difference stops at 0
-gap-same : (now e : ℕ) → ltb (now - e) 300 ≡ ltb now (e + 300)
-gap-same now e = go (ltb now (e + 300)) refl
+gap-same : (now e : ℕ) → (now - e <? liftGap) ≡ (now <? e + gap)
+gap-same now e = go (now <? e + gap) refl
   where
-    go : (t : Bool) → ltb now (e + 300) ≡ t → ltb (now - e) 300 ≡ ltb now (e + 300)
-    go true q = lt-ltb (now - e) 300 (omega (arith, ltb-true now (e + 300) q)) ∙ sym q
-    go false q = le-ltb (now - e) 300 (omega (arith, ltb-false now (e + 300) q)) ∙ sym q
+    go : (t : Bool) → (now <? e + gap) ≡ t → (now - e <? liftGap) ≡ (now <? e + gap)
+    go true q = lt-ltb (now - e) liftGap (omega (arith, ltb-true now (e + gap) q)) ∙ sym q
+    go false q = le-ltb (now - e) liftGap (omega (arith, ltb-false now (e + gap) q)) ∙ sym q
 
 last-is-close : (e : MultiEnd) (b : Before) (now : ℕ) → EndFits touch.Idle e b → isLastFinger e now ≡ close b now
 unfolding isLastFinger
 last-is-close end.Never plain now h = refl
 last-is-close end.Never (manyUntil r) now h = absurd h
 last-is-close (end.At x) plain now h = absurd h
-last-is-close (end.At x) (manyUntil r) now h = gap-same now x ∙ ap (λ (n : ℕ). ltb now (n + 300)) h
+last-is-close (end.At x) (manyUntil r) now h = gap-same now x ∙ ap (λ (n : ℕ). now <? n + gap) h
 
 module _ (s : Seen) (now : ℕ) where
   -- what is seen of a report with one finger
@@ -216,26 +222,12 @@ module _ (s : Seen) (now : ℕ) where
       Moved t s (oneFinger x t p now .out) (oneFinger x t p now .tracker) single
   unfolding oneFinger goesOn setTouch givenBy tests._and_
   one-moved touch.Idle t p f e q = touch-down t p f e
-  one-moved touch.Residual t p f e q = record {
-    no-key = refl;
-    keys = refl;
-    want = refl;
-    seen = refl;
-    touch = subst (λ (x : record-touch.Touch). Fits x (single .touch)) q (ap (λ (o : On). on (withOne o (s .before) now)) f);
-    end = subst (λ (x : record-touch.Touch). EndFits x (t .«multi_end») (s .before)) q e;
-    several = λ h. refl;
-    excepted = λ h. refl;
-  }
-  one-moved (touch.Multi m pair) t p f e q = record {
-    no-key = refl;
-    keys = refl;
-    want = refl;
-    seen = refl;
-    touch = subst (λ (x : record-touch.Touch). Fits x (single .touch)) q (one-several (s .touch) (s .before) now f);
-    end = subst (λ (x : record-touch.Touch). EndFits x (t .«multi_end») (s .before)) q tt;
-    several = λ h. refl;
-    excepted = λ h. refl;
-  }
+  one-moved touch.Residual t p f e q =
+      quiet-moved t s single refl (subst (λ (x : record-touch.Touch). Fits x (single .touch)) q (ap (λ (o : On). on (withOne o (s .before) now)) f))
+      (subst (λ (x : record-touch.Touch). EndFits x (t .«multi_end») (s .before)) q e)
+  one-moved (touch.Multi m pair) t p f e q =
+      quiet-moved t s single refl (subst (λ (x : record-touch.Touch). Fits x (single .touch)) q (one-several (s .touch) (s .before) now f))
+      (subst (λ (x : record-touch.Touch). EndFits x (t .«multi_end») (s .before)) q tt)
   one-moved (touch.Down start since) t p f e q = record {
     no-key = later-plain (t .one) start since p now (t .«grab_ms»);
     keys = refl;
@@ -325,39 +317,18 @@ starts-down t s ev now f e o n c = go (t .touch) refl f e
     go (touch.Down start since) q g h = let z : _≡_ {A = ℕ} 0 1 = cc in absurd (omega arith)
 
 -- A tick that tells of no key.
+
+-- with no finger down by itself it changes nothing
+tick-quiet : (t : Tracker) (s : Seen) (x : record-touch.Touch) → x ≡ t .touch → Fits x (s .touch) → EndFits x (t .«multi_end») (s .before) → Moved t s Quiet t s
+tick-quiet t s x q f e =
+    quiet-moved t s s refl (subst (λ (x : record-touch.Touch). Fits x (s .touch)) q f) (subst (λ (x : record-touch.Touch). EndFits x (t .«multi_end») (s .before)) q e)
+
 pub tick-moved : (t : Tracker) (s : Seen) (now : ℕ) (x : record-touch.Touch) → x ≡ t .touch → Fits x (s .touch) → EndFits x (t .«multi_end») (s .before) →
     Moved t s (stillDown x t now .out) (stillDown x t now .tracker) s
 unfolding stillDown goesOn setTouch givenBy tests._and_
-tick-moved t s now touch.Idle q f e = record {
-  no-key = refl;
-  keys = refl;
-  want = refl;
-  seen = refl;
-  touch = subst (λ (x : record-touch.Touch). Fits x (s .touch)) q f;
-  end = subst (λ (x : record-touch.Touch). EndFits x (t .«multi_end») (s .before)) q e;
-  several = λ h. refl;
-  excepted = λ h. refl;
-}
-tick-moved t s now touch.Residual q f e = record {
-  no-key = refl;
-  keys = refl;
-  want = refl;
-  seen = refl;
-  touch = subst (λ (x : record-touch.Touch). Fits x (s .touch)) q f;
-  end = subst (λ (x : record-touch.Touch). EndFits x (t .«multi_end») (s .before)) q e;
-  several = λ h. refl;
-  excepted = λ h. refl;
-}
-tick-moved t s now (touch.Multi m pair) q f e = record {
-  no-key = refl;
-  keys = refl;
-  want = refl;
-  seen = refl;
-  touch = subst (λ (x : record-touch.Touch). Fits x (s .touch)) q f;
-  end = subst (λ (x : record-touch.Touch). EndFits x (t .«multi_end») (s .before)) q e;
-  several = λ h. refl;
-  excepted = λ h. refl;
-}
+tick-moved t s now touch.Idle q f e = tick-quiet t s touch.Idle q f e
+tick-moved t s now touch.Residual q f e = tick-quiet t s touch.Residual q f e
+tick-moved t s now (touch.Multi m pair) q f e = tick-quiet t s (touch.Multi m pair) q f e
 tick-moved t s now (touch.Down start since) q f e = record {
   no-key = still-plain (t .one) start since now (t .«grab_ms»);
   keys = refl;

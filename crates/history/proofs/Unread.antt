@@ -2,7 +2,7 @@
 -- same with others. Assumes nothing.
 use Prim.Native.Nat.{ℕ}
 use mathlib.Core.Path.{_≡_, sym, ap, subst, _∙_}
-use mathlib.Core.Bool.{true, false, true≢false}
+use mathlib.Core.Bool.{true, true≢false}
 use mathlib.Core.List.{List, [], _∷_, _++_, tail}
 use Rattle.fingers.specs.Keys.{keyStep}
 use Rattle.fingers.specs.declared.gestures.Gesture.{Gesture}

@@ -6,7 +6,7 @@ use Prim.Native.Nat.{ℕ, _+_}
 use mathlib.Core.Bool.{Bool, true, false}
 use Rattle.gesture.specs.Calls.{Call, report, tick, capture, captureDirect, rawNext, setGrabMs}
 use Rattle.gesture.specs.declared.answers.Given.{Given}
-use Rattle.panel.specs.Tests.{if_then_else_, _or_, _<?_, _=?_}
+use Rattle.panel.specs.Tests.{if_then_else_, _<?_, _=?_}
 use Rattle.history.specs.Gestures.{tellsKey}
 use Rattle.history.specs.Keys.{told}
 

@@ -1,2 +1,3 @@
-// The history of touches: what holds of every run of calls on a tracker. There is no code here but one
-// function that ties the statement to the calls that are shipped; the theorem is in specs/ and proofs/.
+// The history of touches: what holds of every run of calls on a tracker. There is no code here. The calls are those of
+// the crate gesture, answered as the contracts of its public functions say; the statement is in specs/, the proof in
+// proofs/.
