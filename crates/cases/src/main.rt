@@ -4,6 +4,7 @@
 mod calibration;
 mod geometry;
 mod print;
+mod tracker;
 
 fn main() {
     geometry::distances();
@@ -12,4 +13,11 @@ fn main() {
     calibration::checks();
     calibration::roots();
     calibration::fits();
+    tracker::trace();
+    tracker::swipes();
+    tracker::slop();
+    tracker::captured();
+    tracker::wished();
+    tracker::spent();
+    tracker::refused();
 }
