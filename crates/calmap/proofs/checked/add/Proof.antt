@@ -1,3 +1,4 @@
+-- `calmap::checked::add` meets its contract. Assumes nothing.
 use mathlib.Core.Path.{_≡_, sym, subst, ap, _∙_}
 use lib.IntN.{_+ℤ_}
 use mir.Syntax.{w32, w64}

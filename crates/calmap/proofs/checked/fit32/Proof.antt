@@ -1,3 +1,4 @@
+-- `calmap::checked::fit32` meets its contract. Assumes nothing.
 use mathlib.Core.Path.{_≡_, subst, ap, _∙_}
 use mathlib.Core.Bool.{true}
 use lib.IntN.{ℤ, pos, negsuc}

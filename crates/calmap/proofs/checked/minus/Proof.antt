@@ -1,3 +1,4 @@
+-- `calmap::checked::minus` meets its contract. Assumes nothing.
 use mathlib.Core.Path.{_≡_, _∙_}
 use lib.IntN.{_-ℤ_}
 use mir.Syntax.{w32}

@@ -1,3 +1,4 @@
+-- `calmap::gaps::dist10` meets its contract. Assumes nothing.
 use Prim.Native.Nat.{_+_, _*_}
 use mathlib.Core.Path.{sym, ap, _∙_}
 use lib.IntN.{ℤ, natAbs}

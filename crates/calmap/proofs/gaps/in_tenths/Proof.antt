@@ -1,3 +1,4 @@
+-- `calmap::gaps::in_tenths` meets its contract. Assumes nothing.
 use Prim.Native.Nat.{ℕ, _<_, _*_, _/_}
 use mathlib.Core.Path.{ap}
 use native.Mathlib.Omega.{arith}

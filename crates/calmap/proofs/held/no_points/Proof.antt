@@ -1,3 +1,4 @@
+-- `calmap::held::no_points` meets its contract. Assumes nothing.
 use mathlib.Core.Path.{refl}
 use Rattle.calmap.specs.Held.{filled, heldPoints}
 use Rattle.calmap.proofs.held.no_points.Statement.{statement}

@@ -1,3 +1,4 @@
+-- `calmap::held::no_taps` meets its contract. Assumes nothing.
 use mathlib.Core.Path.{refl}
 use Rattle.calmap.specs.Held.{filled, heldTaps}
 use Rattle.calmap.proofs.held.no_taps.Statement.{statement}

@@ -1,3 +1,4 @@
+-- `calmap::held::pair_up` meets its contract. Assumes nothing.
 use mathlib.Core.Path.{sym}
 use borrow.Author.Needs.{needs}
 use Rattle.panel.proofs.Follow.{and-true, and-false}

@@ -1,3 +1,4 @@
+-- `calmap::held::resid_held` meets its contract. Assumes nothing.
 use mathlib.Core.Path.{sym, _∙_}
 use borrow.Author.Needs.{needs}
 use Rattle.panel.proofs.Follow.{if-true, if-false}

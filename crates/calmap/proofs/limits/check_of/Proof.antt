@@ -1,3 +1,4 @@
+-- `calmap::limits::check_of` meets its contract. Assumes nothing.
 use mathlib.Core.Path.{sym, ap, _∙_}
 use borrow.Author.Needs.{needs}
 use Rattle.panel.proofs.Follow.{if-true, if-false}

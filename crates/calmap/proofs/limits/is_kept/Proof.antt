@@ -1,3 +1,4 @@
+-- `calmap::limits::is_kept` meets its contract. Assumes nothing.
 use mathlib.Core.Path.{_≡_, sym, _∙_}
 use lib.IntN.{pos}
 use mir.Syntax.{w32}

@@ -1,3 +1,4 @@
+-- `calmap::limits::judge` meets its contract. Assumes nothing.
 use borrow.Author.Needs.{needs}
 use Rattle.panel.proofs.Follow.{follow}
 use Rattle.calmap.specs.Checks.{verdictOf}

@@ -1,3 +1,4 @@
+-- `calmap::limits::scale_holds` meets its contract. Assumes nothing.
 use borrow.Author.Needs.{needs}
 use Rattle.panel.proofs.Follow.{follow}
 use Rattle.calmap.specs.Checks.{scaleHolds}

@@ -1,3 +1,4 @@
+-- `calmap::mapping::in_i16` meets its contract. Assumes nothing.
 use mathlib.Core.Path.{_≡_, sym, subst, ap, _∙_}
 use mathlib.Core.Bool.{true, false}
 use lib.IntN.{ℤ, pos, negsuc}

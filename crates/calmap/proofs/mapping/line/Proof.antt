@@ -1,3 +1,4 @@
+-- `calmap::mapping::line` meets its contract. Assumes nothing.
 use mathlib.Core.Path.{ap, _∙_}
 use lib.IntN.{ℤ, pos, _*ℤ_}
 use borrow.Author.Needs.{needs}

@@ -1,3 +1,4 @@
+-- `calmap::mapping::spot_at` meets its contract. Assumes nothing.
 use mir.Syntax.{w32}
 use mir.Val.{SFits}
 use borrow.Author.Needs.{needs}

@@ -1,3 +1,4 @@
+-- `calmap::pixels::of_i16` meets its contract. Assumes nothing.
 use Rattle.calmap.proofs.Signed.{wide16, read16}
 use Rattle.calmap.proofs.pixels.of_i16.Statement.{statement}
 use Rattle.calmap.proofs.pixels.of_i16.Tie as tie

@@ -1,3 +1,4 @@
+-- `calmap::pixels::of_u16` meets its contract. Assumes nothing.
 use Prim.Native.Nat.{_<_}
 use native.Mathlib.Omega.{arith}
 use mir.Facts.{toZ-pos}

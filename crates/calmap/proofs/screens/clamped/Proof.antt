@@ -1,3 +1,4 @@
+-- `calmap::screens::clamped` meets its contract. Assumes nothing.
 use mathlib.Core.Path.{_≡_, sym}
 use mathlib.Core.Bool.{false}
 use lib.IntN.{pos}

@@ -1,3 +1,4 @@
+-- `calmap::screens::moved_by` meets its contract. Assumes nothing.
 use Prim.Native.Nat.{_<_}
 use mathlib.Core.Path.{_≡_, sym, subst, _∙_}
 use lib.IntN.{pos, _+ℤ_}

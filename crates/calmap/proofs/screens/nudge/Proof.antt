@@ -1,3 +1,4 @@
+-- `calmap::screens::nudge` meets its contract. Assumes nothing.
 use mathlib.Core.Path.{ap, _∙_}
 use lib.IntN.{ℤ, _*ℤ_}
 use borrow.Author.Needs.{needs}

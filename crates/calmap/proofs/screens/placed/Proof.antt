@@ -1,3 +1,4 @@
+-- `calmap::screens::placed` meets its contract. Assumes nothing.
 use Prim.Native.Nat.{_-_}
 use mathlib.Core.Path.{ap, _∙_}
 use lib.IntN.{ℤ}

@@ -1,3 +1,4 @@
+-- `calmap::screens::screen` meets its contract. Assumes nothing.
 use mathlib.Core.Path.{_∙_}
 use mir.Syntax.{w32}
 use mir.Val.{SFits}

@@ -1,3 +1,4 @@
+-- `calmap::screens::shifted` meets its contract. Assumes nothing.
 use mathlib.Core.Path.{_≡_, ap, _∙_}
 use lib.IntN.{ℤ, pos, _+ℤ_}
 use mir.Syntax.{w32}

@@ -1,3 +1,4 @@
+-- `fingers::hold::grab_due` meets its contract. Assumes nothing.
 use Rattle.panel.proofs.Follow.{follow}
 use Rattle.fingers.specs.Holds.{grabDue}
 use Rattle.fingers.proofs.hold.grab_due.Statement.{statement}

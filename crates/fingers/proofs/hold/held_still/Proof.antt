@@ -1,3 +1,4 @@
+-- `fingers::hold::held_still` meets its contract. Assumes nothing.
 use Rattle.panel.proofs.Follow.{follow}
 use Rattle.fingers.specs.Holds.{heldStill}
 use borrow.Author.Needs.{needs}

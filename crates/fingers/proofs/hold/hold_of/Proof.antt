@@ -1,3 +1,4 @@
+-- `fingers::hold::hold_of` meets its contract. Assumes nothing.
 use Rattle.panel.proofs.Follow.{follow}
 use Rattle.fingers.specs.Holds.{holdOf}
 use Rattle.fingers.proofs.hold.hold_of.Statement.{statement}

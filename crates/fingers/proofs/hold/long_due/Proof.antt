@@ -1,3 +1,4 @@
+-- `fingers::hold::long_due` meets its contract. Assumes nothing.
 use Rattle.panel.proofs.Follow.{follow}
 use Rattle.fingers.specs.Holds.{longDue}
 use borrow.Author.Needs.{needs}

@@ -1,3 +1,4 @@
+-- `fingers::hold::long_from` meets its contract. Assumes nothing.
 use Rattle.panel.proofs.Follow.{follow}
 use Rattle.fingers.specs.Holds.{longFrom}
 use Rattle.fingers.proofs.hold.long_from.Statement.{statement}

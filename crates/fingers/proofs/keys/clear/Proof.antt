@@ -1,3 +1,4 @@
+-- `fingers::keys::clear` meets its contract. Assumes nothing.
 use Rattle.panel.proofs.Follow.{follow}
 use Rattle.fingers.specs.Keys.{without}
 use Rattle.fingers.proofs.keys.clear.Statement.{statement}

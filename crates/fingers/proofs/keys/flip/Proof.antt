@@ -1,3 +1,4 @@
+-- `fingers::keys::flip` meets its contract. Assumes nothing.
 use Prim.Native.Nat.{_<_, _^_}
 use lib.Pow.{pow-lt}
 use native.Mathlib.Nat.{one-mul, mod-eq-of-lt}

@@ -1,3 +1,4 @@
+-- `fingers::keys::key_step` meets its contract. Assumes nothing.
 use Rattle.panel.proofs.Follow.{follow}
 use Rattle.fingers.specs.Keys.{keyStep}
 use borrow.Author.Needs.{needs}

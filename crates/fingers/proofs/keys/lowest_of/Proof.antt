@@ -1,3 +1,4 @@
+-- `fingers::keys::lowest_of` meets its contract. Assumes nothing.
 use native.Mathlib.Omega.{arith}
 use borrow.Author.Needs.{needs}
 use Rattle.fingers.specs.Keys.{lowest}

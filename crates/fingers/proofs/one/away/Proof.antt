@@ -1,3 +1,4 @@
+-- `fingers::one::away` meets its contract. Assumes nothing.
 use native.Mathlib.Omega.{arith}
 use Rattle.panel.proofs.Follow.{follow}
 use borrow.Author.Needs.{needs}

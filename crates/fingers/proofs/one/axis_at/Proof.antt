@@ -1,3 +1,4 @@
+-- `fingers::one::axis_at` meets its contract. Assumes nothing.
 use Rattle.panel.proofs.Follow.{follow}
 use Rattle.fingers.specs.OneFinger.{axisAt}
 use borrow.Author.Needs.{needs}

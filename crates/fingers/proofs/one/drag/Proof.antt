@@ -1,3 +1,4 @@
+-- `fingers::one::drag` meets its contract. Assumes nothing.
 use Rattle.panel.proofs.Follow.{follow}
 use Rattle.fingers.specs.OneFinger.{dragAlong}
 use borrow.Author.Needs.{needs}

@@ -1,3 +1,4 @@
+-- `fingers::one::grab_or_move` meets its contract. Assumes nothing.
 use Rattle.panel.proofs.Follow.{follow}
 use Rattle.fingers.specs.OneFinger.{grabOrMoving}
 use borrow.Author.Needs.{needs}

@@ -1,3 +1,4 @@
+-- `fingers::one::is_early` meets its contract. Assumes nothing.
 use Rattle.panel.proofs.Follow.{follow}
 use Rattle.fingers.specs.OneFinger.{earlyNow}
 use Rattle.fingers.proofs.one.is_early.Statement.{statement}

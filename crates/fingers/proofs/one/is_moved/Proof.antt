@@ -1,3 +1,4 @@
+-- `fingers::one::is_moved` meets its contract. Assumes nothing.
 use Rattle.panel.proofs.Follow.{follow}
 use Rattle.fingers.proofs.one.is_moved.Statement.{statement}
 use Rattle.fingers.proofs.one.is_moved.Tie as tie

@@ -1,3 +1,4 @@
+-- `fingers::one::later_report` meets its contract. Assumes nothing.
 use Rattle.panel.proofs.Follow.{follow}
 use Rattle.fingers.specs.OneFinger.{laterReport}
 use borrow.Author.Needs.{needs}

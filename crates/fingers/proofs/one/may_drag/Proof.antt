@@ -1,3 +1,4 @@
+-- `fingers::one::may_drag` meets its contract. Assumes nothing.
 use Rattle.panel.proofs.Follow.{follow}
 use Rattle.fingers.specs.OneFinger.{mayDrag}
 use Rattle.fingers.proofs.one.may_drag.Statement.{statement}

@@ -1,3 +1,4 @@
+-- `fingers::one::move_from` meets its contract. Assumes nothing.
 use Rattle.panel.proofs.Follow.{follow}
 use Rattle.fingers.specs.OneFinger.{moveFrom}
 use borrow.Author.Needs.{needs}

@@ -1,3 +1,4 @@
+-- `fingers::one::move_or_drag` meets its contract. Assumes nothing.
 use Rattle.panel.proofs.Follow.{follow}
 use Rattle.fingers.specs.OneFinger.{moving}
 use borrow.Author.Needs.{needs}

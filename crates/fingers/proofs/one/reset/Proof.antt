@@ -1,3 +1,4 @@
+-- `fingers::one::reset` meets its contract. Assumes nothing.
 use Rattle.panel.proofs.Follow.{follow}
 use Rattle.fingers.specs.Fields.{reset}
 use Rattle.fingers.proofs.one.reset.Statement.{statement}

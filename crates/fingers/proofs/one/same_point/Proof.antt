@@ -1,3 +1,4 @@
+-- `fingers::one::same_point` meets its contract. Assumes nothing.
 use Rattle.panel.proofs.Follow.{follow}
 use Rattle.fingers.specs.OneFinger.{samePoint}
 use Rattle.fingers.proofs.one.same_point.Statement.{statement}

@@ -1,3 +1,4 @@
+-- `fingers::one::track` meets its contract. Assumes nothing.
 use Rattle.panel.proofs.Follow.{follow}
 use Rattle.fingers.specs.OneFinger.{tracked}
 use borrow.Author.Needs.{needs}

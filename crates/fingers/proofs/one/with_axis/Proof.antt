@@ -1,3 +1,4 @@
+-- `fingers::one::with_axis` meets its contract. Assumes nothing.
 use Rattle.panel.proofs.Follow.{follow}
 use Rattle.fingers.specs.Fields.{setAxis}
 use Rattle.fingers.proofs.one.with_axis.Statement.{statement}

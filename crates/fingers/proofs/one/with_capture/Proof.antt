@@ -1,3 +1,4 @@
+-- `fingers::one::with_capture` meets its contract. Assumes nothing.
 use Rattle.panel.proofs.Follow.{follow}
 use Rattle.fingers.specs.Fields.{setCaptured}
 use Rattle.fingers.proofs.one.with_capture.Statement.{statement}

@@ -1,3 +1,4 @@
+-- `fingers::one::with_direct` meets its contract. Assumes nothing.
 use Rattle.panel.proofs.Follow.{follow}
 use Rattle.fingers.specs.Fields.{setDirect}
 use Rattle.fingers.proofs.one.with_direct.Statement.{statement}

@@ -1,3 +1,4 @@
+-- `fingers::one::with_grab` meets its contract. Assumes nothing.
 use Rattle.panel.proofs.Follow.{follow}
 use Rattle.fingers.specs.Fields.{setGrabbed}
 use Rattle.fingers.proofs.one.with_grab.Statement.{statement}

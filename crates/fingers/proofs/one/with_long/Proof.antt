@@ -1,3 +1,4 @@
+-- `fingers::one::with_long` meets its contract. Assumes nothing.
 use Rattle.panel.proofs.Follow.{follow}
 use Rattle.fingers.specs.Fields.{setLongSent}
 use Rattle.fingers.proofs.one.with_long.Statement.{statement}

@@ -1,3 +1,4 @@
+-- `fingers::pair::keeps_order` meets its contract. Assumes nothing.
 use Rattle.panel.proofs.Follow.{follow}
 use Rattle.fingers.specs.Pairs.{keepsOrder}
 use native.Mathlib.Omega.{arith}

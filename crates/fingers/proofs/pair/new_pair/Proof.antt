@@ -1,3 +1,4 @@
+-- `fingers::pair::new_pair` meets its contract. Assumes nothing.
 use Rattle.panel.proofs.Follow.{follow}
 use Rattle.fingers.specs.Pairs.{newPair}
 use borrow.Author.Needs.{needs}

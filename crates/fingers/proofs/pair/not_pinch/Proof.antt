@@ -1,3 +1,4 @@
+-- `fingers::pair::not_pinch` meets its contract. Assumes nothing.
 use Rattle.panel.proofs.Follow.{follow}
 use Rattle.fingers.specs.Pairs.{notPinch}
 use Rattle.fingers.proofs.pair.not_pinch.Statement.{statement}

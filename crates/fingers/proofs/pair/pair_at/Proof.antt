@@ -1,3 +1,4 @@
+-- `fingers::pair::pair_at` meets its contract. Assumes nothing.
 use Rattle.panel.proofs.Follow.{follow}
 use Rattle.fingers.specs.Pairs.{pairAt}
 use borrow.Author.Needs.{needs}

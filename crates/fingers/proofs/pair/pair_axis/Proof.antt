@@ -1,3 +1,4 @@
+-- `fingers::pair::pair_axis` meets its contract. Assumes nothing.
 use Rattle.panel.proofs.Follow.{follow}
 use Rattle.fingers.specs.Pairs.{pairAxis}
 use borrow.Author.Needs.{needs}

@@ -1,3 +1,4 @@
+-- `fingers::pair::pair_next` meets its contract. Assumes nothing.
 use Rattle.panel.proofs.Follow.{follow}
 use Rattle.fingers.specs.Pairs.{pairNext}
 use borrow.Author.Needs.{needs}

@@ -1,3 +1,4 @@
+-- `fingers::pair::pinch` meets its contract. Assumes nothing.
 use Rattle.panel.proofs.Follow.{follow}
 use Rattle.fingers.specs.Pairs.{pinchOf}
 use borrow.Author.Needs.{needs}

@@ -1,3 +1,4 @@
+-- `fingers::pair::span` meets its contract. Assumes nothing.
 use Rattle.panel.proofs.Follow.{follow}
 use Rattle.fingers.specs.Pairs.{spanAlong}
 use borrow.Author.Needs.{needs}

@@ -1,3 +1,4 @@
+-- `fingers::pair::span_told` meets its contract. Assumes nothing.
 use native.Mathlib.Omega.{arith}
 use Rattle.fingers.specs.Pairs.{spanTold}
 use Rattle.fingers.proofs.pair.span_told.Statement.{statement}

@@ -1,3 +1,4 @@
+-- `fingers::pair::state_next` meets its contract. Assumes nothing.
 use Rattle.panel.proofs.Follow.{follow}
 use Rattle.fingers.specs.Pairs.{stateNext}
 use Rattle.fingers.proofs.pair.state_next.Statement.{statement}

@@ -1,3 +1,4 @@
+-- `fingers::releases::is_swipe` meets its contract. Assumes nothing.
 use Rattle.panel.proofs.Follow.{follow}
 use Rattle.fingers.specs.Releases.{isSwipe}
 use Rattle.fingers.proofs.releases.is_swipe.Statement.{statement}

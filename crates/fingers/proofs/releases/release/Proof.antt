@@ -1,3 +1,4 @@
+-- `fingers::releases::release` meets its contract. Assumes nothing.
 use Rattle.panel.proofs.Follow.{follow}
 use Rattle.fingers.specs.Releases.{releaseOf}
 use borrow.Author.Needs.{needs}

@@ -1,3 +1,4 @@
+-- `fingers::releases::release_by` meets its contract. Assumes nothing.
 use Rattle.panel.proofs.Follow.{follow}
 use Rattle.fingers.specs.Releases.{releaseBy}
 use borrow.Author.Needs.{needs}

@@ -1,3 +1,4 @@
+-- `fingers::releases::swipe` meets its contract. Assumes nothing.
 use Rattle.panel.proofs.Follow.{follow}
 use Rattle.fingers.specs.Releases.{swipeOrNote}
 use borrow.Author.Needs.{needs}

@@ -1,3 +1,4 @@
+-- `fingers::releases::tap_or` meets its contract. Assumes nothing.
 use Rattle.panel.proofs.Follow.{follow}
 use Rattle.fingers.specs.Releases.{tapOrNote}
 use Rattle.fingers.proofs.releases.tap_or.Statement.{statement}

@@ -1,3 +1,4 @@
+-- `fingers::several::far_down` meets its contract. Assumes nothing.
 use Rattle.panel.proofs.Follow.{follow}
 use Rattle.fingers.specs.Several.{farDown}
 use Rattle.fingers.proofs.several.far_down.Statement.{statement}

@@ -1,3 +1,4 @@
+-- `fingers::several::grown` meets its contract. Assumes nothing.
 use Rattle.panel.proofs.Follow.{follow}
 use Rattle.fingers.specs.Several.{multiGrown}
 use borrow.Author.Needs.{needs}

@@ -1,3 +1,4 @@
+-- `fingers::several::is_pinch` meets its contract. Assumes nothing.
 use Rattle.panel.proofs.Follow.{follow}
 use Rattle.fingers.specs.Several.{isPinch}
 use borrow.Author.Needs.{needs}

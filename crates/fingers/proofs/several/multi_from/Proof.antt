@@ -1,3 +1,4 @@
+-- `fingers::several::multi_from` meets its contract. Assumes nothing.
 use Rattle.panel.proofs.Follow.{follow}
 use Rattle.fingers.specs.Several.{multiFrom}
 use Rattle.fingers.proofs.several.multi_from.Statement.{statement}

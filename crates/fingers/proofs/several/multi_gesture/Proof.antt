@@ -1,3 +1,4 @@
+-- `fingers::several::multi_gesture` meets its contract. Assumes nothing.
 use Rattle.panel.proofs.Follow.{follow}
 use Rattle.fingers.specs.Several.{multiRule}
 use borrow.Author.Needs.{needs}

@@ -1,3 +1,4 @@
+-- `fingers::several::pinch_end_or_seen` meets its contract. Assumes nothing.
 use Rattle.panel.proofs.Follow.{follow}
 use Rattle.fingers.specs.Several.{pinchEndOrSeen}
 use borrow.Author.Needs.{needs}

@@ -1,3 +1,4 @@
+-- `fingers::several::pinch_or_seen` meets its contract. Assumes nothing.
 use Rattle.panel.proofs.Follow.{follow}
 use Rattle.fingers.specs.Several.{pinchOrSeen}
 use borrow.Author.Needs.{needs}

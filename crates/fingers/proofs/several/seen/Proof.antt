@@ -1,3 +1,4 @@
+-- `fingers::several::seen` meets its contract. Assumes nothing.
 use Rattle.panel.proofs.Follow.{follow}
 use Rattle.fingers.specs.Several.{multiSeen}
 use borrow.Author.Needs.{needs}

@@ -1,3 +1,4 @@
+-- `fingers::several::swiped_down` meets its contract. Assumes nothing.
 use Rattle.panel.proofs.Follow.{follow}
 use Rattle.fingers.specs.Several.{swipedDown}
 use borrow.Author.Needs.{needs}

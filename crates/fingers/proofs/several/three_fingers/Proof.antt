@@ -1,3 +1,4 @@
+-- `fingers::several::three_fingers` meets its contract. Assumes nothing.
 use Rattle.panel.proofs.Follow.{follow}
 use Rattle.fingers.specs.Several.{threeFingers}
 use borrow.Author.Needs.{needs}

@@ -1,3 +1,4 @@
+-- `fingers::several::two_fingers` meets its contract. Assumes nothing.
 use Rattle.panel.proofs.Follow.{follow}
 use Rattle.fingers.specs.Several.{twoFingers}
 use borrow.Author.Needs.{needs}

@@ -1,3 +1,4 @@
+-- `gesture::answers::answered` meets its contract. Assumes nothing.
 use Rattle.panel.proofs.Follow.{follow}
 use Rattle.gesture.specs.Answers.{answered}
 use Rattle.gesture.proofs.answers.answered.Statement.{statement}

@@ -1,3 +1,4 @@
+-- `gesture::answers::given_by` meets its contract. Assumes nothing.
 use Rattle.panel.proofs.Follow.{follow}
 use Rattle.gesture.specs.Answers.{givenBy}
 use borrow.Author.Needs.{needs}

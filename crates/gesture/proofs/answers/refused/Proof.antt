@@ -1,3 +1,4 @@
+-- `gesture::answers::refused` meets its contract. Assumes nothing.
 use Rattle.panel.proofs.Follow.{follow}
 use Rattle.gesture.specs.Answers.{refused}
 use borrow.Author.Needs.{needs}

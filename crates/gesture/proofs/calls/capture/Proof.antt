@@ -1,3 +1,4 @@
+-- `gesture::calls::capture` meets its contract. Assumes nothing.
 use Rattle.panel.proofs.Follow.{follow}
 use Rattle.gesture.specs.Answers.{captureOf}
 use borrow.Author.Needs.{needs}

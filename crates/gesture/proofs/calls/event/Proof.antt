@@ -1,3 +1,4 @@
+-- `gesture::calls::event` meets its contract. Assumes nothing.
 use Rattle.panel.proofs.Follow.{follow}
 use Rattle.gesture.specs.Answers.{eventOf}
 use borrow.Author.Needs.{needs}

@@ -1,3 +1,4 @@
+-- `gesture::calls::grab_ms` meets its contract. Assumes nothing.
 use Rattle.panel.proofs.Follow.{follow}
 use Rattle.gesture.specs.Answers.{grabOf}
 use borrow.Author.Needs.{needs}

@@ -1,3 +1,4 @@
+-- `gesture::calls::points_ok` meets its contract. Assumes nothing.
 use Rattle.gesture.specs.Answers.{pointsInUse}
 use Rattle.gesture.proofs.Counts.{one-point}
 use Rattle.panel.proofs.Follow.{follow}

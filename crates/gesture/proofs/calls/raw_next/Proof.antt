@@ -1,3 +1,4 @@
+-- `gesture::calls::raw_next` meets its contract. Assumes nothing.
 use Rattle.panel.proofs.Follow.{follow}
 use Rattle.gesture.specs.Answers.{rawNextOf}
 use borrow.Author.Needs.{needs}

@@ -1,3 +1,4 @@
+-- `gesture::calls::report_answer` meets its contract. Assumes nothing.
 use Rattle.panel.proofs.Follow.{follow}
 use Rattle.gesture.specs.Answers.{reported}
 use borrow.Author.Needs.{needs}

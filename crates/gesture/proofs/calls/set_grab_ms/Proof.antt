@@ -1,3 +1,4 @@
+-- `gesture::calls::set_grab_ms` meets its contract. Assumes nothing.
 use Rattle.panel.proofs.Follow.{follow}
 use Rattle.gesture.specs.Answers.{setGrabOf}
 use borrow.Author.Needs.{needs}

@@ -1,3 +1,4 @@
+-- `gesture::calls::tick` meets its contract. Assumes nothing.
 use Rattle.panel.proofs.Follow.{follow}
 use Rattle.gesture.specs.Answers.{tickOf}
 use borrow.Author.Needs.{needs}

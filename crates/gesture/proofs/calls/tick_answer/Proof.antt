@@ -1,3 +1,4 @@
+-- `gesture::calls::tick_answer` meets its contract. Assumes nothing.
 use Rattle.panel.proofs.Follow.{follow}
 use Rattle.gesture.specs.Answers.{ticked}
 use borrow.Author.Needs.{needs}

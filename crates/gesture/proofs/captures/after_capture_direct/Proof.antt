@@ -1,3 +1,4 @@
+-- `gesture::captures::after_capture_direct` meets its contract. Assumes nothing.
 use Rattle.panel.proofs.Follow.{follow}
 use Rattle.gesture.specs.Captures.{afterCaptureDirect}
 use borrow.Author.Needs.{needs}

@@ -1,3 +1,4 @@
+-- `gesture::captures::after_set_grab` meets its contract. Assumes nothing.
 use Rattle.panel.proofs.Follow.{follow}
 use Rattle.gesture.specs.Captures.{afterSetGrab}
 use borrow.Author.Needs.{needs}

@@ -1,3 +1,4 @@
+-- `gesture::captures::is_takeable` meets its contract. Assumes nothing.
 use Rattle.panel.proofs.Follow.{follow}
 use Rattle.gesture.specs.Captures.{takes}
 use borrow.Author.Needs.{needs}

@@ -1,3 +1,4 @@
+-- `gesture::captures::with_taken` meets its contract. Assumes nothing.
 use Rattle.panel.proofs.Follow.{follow}
 use Rattle.gesture.specs.Captures.{taken}
 use borrow.Author.Needs.{needs}

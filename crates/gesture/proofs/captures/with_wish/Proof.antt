@@ -1,3 +1,4 @@
+-- `gesture::captures::with_wish` meets its contract. Assumes nothing.
 use Rattle.panel.proofs.Follow.{follow}
 use Rattle.gesture.specs.Captures.{wished}
 use borrow.Author.Needs.{needs}

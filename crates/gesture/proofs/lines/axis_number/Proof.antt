@@ -1,3 +1,4 @@
+-- `gesture::lines::axis_number` meets its contract. Assumes nothing.
 use Rattle.panel.proofs.Follow.{follow}
 use Rattle.gesture.specs.Lines.{axisNumber}
 use borrow.Author.Needs.{needs}

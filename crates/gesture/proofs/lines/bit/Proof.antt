@@ -1,3 +1,4 @@
+-- `gesture::lines::bit` meets its contract. Assumes nothing.
 use Rattle.panel.proofs.Follow.{follow}
 use Rattle.gesture.specs.Lines.{bit}
 use Rattle.gesture.proofs.lines.bit.Statement.{statement}

@@ -1,3 +1,4 @@
+-- `gesture::lines::code_of` meets its contract. Assumes nothing.
 use Rattle.panel.proofs.Follow.{follow}
 use Rattle.gesture.specs.Codes.{codeOf}
 use borrow.Author.Needs.{needs}

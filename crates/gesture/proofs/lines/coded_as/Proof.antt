@@ -1,3 +1,4 @@
+-- `gesture::lines::coded_as` meets its contract. Assumes nothing.
 use Rattle.panel.proofs.Follow.{follow}
 use Rattle.gesture.specs.Codes.{codedAs}
 use Rattle.gesture.proofs.lines.coded_as.Statement.{statement}

@@ -1,3 +1,4 @@
+-- `gesture::lines::is_later_drag` meets its contract. Assumes nothing.
 use Rattle.panel.proofs.Follow.{follow}
 use Rattle.gesture.specs.Codes.{isLaterDrag}
 use borrow.Author.Needs.{needs}

@@ -1,3 +1,4 @@
+-- `gesture::lines::is_locked` meets its contract. Assumes nothing.
 use Rattle.panel.proofs.Follow.{follow}
 use Rattle.gesture.specs.Lines.{isLocked}
 use borrow.Author.Needs.{needs}

@@ -1,3 +1,4 @@
+-- `gesture::lines::line_by_code` meets its contract. Assumes nothing.
 use Rattle.panel.proofs.Follow.{follow}
 use Rattle.gesture.specs.Codes.{lineByCode}
 use borrow.Author.Needs.{needs}

@@ -1,3 +1,4 @@
+-- `gesture::lines::log_gesture` meets its contract. Assumes nothing.
 use Rattle.gesture.proofs.Table.{line-by-code}
 use Rattle.panel.proofs.Follow.{follow}
 use borrow.Author.Needs.{needs}

@@ -1,3 +1,4 @@
+-- `gesture::lines::report_gesture_line` meets its contract. Assumes nothing.
 use Rattle.gesture.proofs.Table.{line-by-code, later-drag-by-code}
 use Rattle.panel.proofs.Follow.{follow}
 use Rattle.gesture.specs.Lines.{reportGestureLine}

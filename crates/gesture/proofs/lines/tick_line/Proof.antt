@@ -1,3 +1,4 @@
+-- `gesture::lines::tick_line` meets its contract. Assumes nothing.
 use Rattle.panel.proofs.Follow.{follow}
 use Rattle.gesture.specs.Lines.{tickLine}
 use borrow.Author.Needs.{needs}

@@ -1,3 +1,4 @@
+-- `gesture::record::fresh` meets its contract. Assumes nothing.
 use Rattle.panel.proofs.Follow.{follow}
 use Rattle.gesture.specs.Trackers.{freshTracker}
 use borrow.Author.Needs.{needs}

@@ -1,3 +1,4 @@
+-- `gesture::record::is_active` meets its contract. Assumes nothing.
 use Rattle.panel.proofs.Follow.{follow}
 use Rattle.gesture.specs.Trackers.{isActive}
 use borrow.Author.Needs.{needs}

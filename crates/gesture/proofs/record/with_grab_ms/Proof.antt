@@ -1,3 +1,4 @@
+-- `gesture::record::with_grab_ms` meets its contract. Assumes nothing.
 use Rattle.panel.proofs.Follow.{follow}
 use Rattle.gesture.specs.Trackers.{setGrab}
 use Rattle.gesture.proofs.record.with_grab_ms.Statement.{statement}

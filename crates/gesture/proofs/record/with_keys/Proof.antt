@@ -1,3 +1,4 @@
+-- `gesture::record::with_keys` meets its contract. Assumes nothing.
 use Rattle.panel.proofs.Follow.{follow}
 use Rattle.gesture.specs.Trackers.{setKeys}
 use Rattle.gesture.proofs.record.with_keys.Statement.{statement}

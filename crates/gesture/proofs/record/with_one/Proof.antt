@@ -1,3 +1,4 @@
+-- `gesture::record::with_one` meets its contract. Assumes nothing.
 use Rattle.panel.proofs.Follow.{follow}
 use Rattle.gesture.specs.Trackers.{setOne}
 use Rattle.gesture.proofs.record.with_one.Statement.{statement}

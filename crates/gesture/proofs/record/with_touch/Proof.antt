@@ -1,3 +1,4 @@
+-- `gesture::record::with_touch` meets its contract. Assumes nothing.
 use Rattle.panel.proofs.Follow.{follow}
 use Rattle.gesture.specs.Trackers.{setTouch}
 use Rattle.gesture.proofs.record.with_touch.Statement.{statement}

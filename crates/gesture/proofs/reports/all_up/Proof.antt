@@ -1,3 +1,4 @@
+-- `gesture::reports::all_up` meets its contract. Assumes nothing.
 use Rattle.panel.proofs.Follow.{follow}
 use Rattle.gesture.specs.Reports.{allUp}
 use borrow.Author.Needs.{needs}

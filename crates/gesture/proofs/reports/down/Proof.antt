@@ -1,3 +1,4 @@
+-- `gesture::reports::down` meets its contract. Assumes nothing.
 use Rattle.panel.proofs.Follow.{follow}
 use Rattle.gesture.specs.Reports.{newTouch}
 use borrow.Author.Needs.{needs}

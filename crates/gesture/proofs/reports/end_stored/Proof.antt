@@ -1,3 +1,4 @@
+-- `gesture::reports::end_stored` meets its contract. Assumes nothing.
 use Rattle.panel.proofs.Follow.{follow}
 use Rattle.gesture.specs.Reports.{endStored}
 use borrow.Author.Needs.{needs}

@@ -1,3 +1,4 @@
+-- `gesture::reports::goes_on` meets its contract. Assumes nothing.
 use Rattle.panel.proofs.Follow.{follow}
 use Rattle.gesture.specs.Reports.{goesOn}
 use borrow.Author.Needs.{needs}

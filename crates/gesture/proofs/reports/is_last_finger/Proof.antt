@@ -1,3 +1,4 @@
+-- `gesture::reports::is_last_finger` meets its contract. Assumes nothing.
 use Rattle.panel.proofs.Follow.{follow}
 use Rattle.gesture.specs.Reports.{isLastFinger}
 use borrow.Author.Needs.{needs}

@@ -1,3 +1,4 @@
+-- `gesture::reports::keys_then_fingers` meets its contract. Assumes nothing.
 use Rattle.panel.proofs.Follow.{follow}
 use Rattle.gesture.specs.Reports.{keysThenFingers}
 use borrow.Author.Needs.{needs}

@@ -1,3 +1,4 @@
+-- `gesture::reports::more_at` meets its contract. Assumes nothing.
 use Rattle.panel.proofs.Follow.{follow}
 use Rattle.gesture.specs.Reports.{more}
 use borrow.Author.Needs.{needs}

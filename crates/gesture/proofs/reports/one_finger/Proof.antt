@@ -1,3 +1,4 @@
+-- `gesture::reports::one_finger` meets its contract. Assumes nothing.
 use Rattle.panel.proofs.Follow.{follow}
 use Rattle.gesture.specs.Reports.{oneFinger}
 use borrow.Author.Needs.{needs}

@@ -1,3 +1,4 @@
+-- `gesture::reports::report_step` meets its contract. Assumes nothing.
 use Rattle.panel.proofs.Follow.{follow}
 use Rattle.gesture.specs.Reports.{reportStep}
 use borrow.Author.Needs.{needs}

@@ -1,3 +1,4 @@
+-- `gesture::reports::residual` meets its contract. Assumes nothing.
 use Rattle.panel.proofs.Follow.{follow}
 use Rattle.gesture.specs.Reports.{residualTouch}
 use borrow.Author.Needs.{needs}

@@ -1,3 +1,4 @@
+-- `gesture::reports::several` meets its contract. Assumes nothing.
 use Rattle.panel.proofs.Follow.{follow}
 use Rattle.gesture.specs.Reports.{several}
 use borrow.Author.Needs.{needs}

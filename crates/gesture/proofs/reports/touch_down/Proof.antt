@@ -1,3 +1,4 @@
+-- `gesture::reports::touch_down` meets its contract. Assumes nothing.
 use Rattle.panel.proofs.Follow.{follow}
 use Rattle.gesture.specs.Reports.{touchDown}
 use borrow.Author.Needs.{needs}

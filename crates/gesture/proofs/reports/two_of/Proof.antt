@@ -1,3 +1,4 @@
+-- `gesture::reports::two_of` meets its contract. Assumes nothing.
 use Rattle.panel.proofs.Follow.{follow}
 use Rattle.gesture.specs.Reports.{twoOf}
 use borrow.Author.Needs.{needs}

@@ -1,3 +1,4 @@
+-- `gesture::reports::two_start` meets its contract. Assumes nothing.
 use Rattle.panel.proofs.Follow.{follow}
 use Rattle.gesture.specs.Reports.{twoStart}
 use borrow.Author.Needs.{needs}

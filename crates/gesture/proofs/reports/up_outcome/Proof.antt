@@ -1,3 +1,4 @@
+-- `gesture::reports::up_outcome` meets its contract. Assumes nothing.
 use Rattle.panel.proofs.Follow.{follow}
 use Rattle.gesture.specs.Reports.{upOutcome}
 use borrow.Author.Needs.{needs}

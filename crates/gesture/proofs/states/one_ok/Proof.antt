@@ -1,3 +1,4 @@
+-- `gesture::states::one_ok` meets its contract. Assumes nothing.
 use Rattle.panel.proofs.Follow.{follow}
 use Rattle.gesture.specs.Parts.{onePart}
 use borrow.Author.Needs.{needs}

@@ -1,3 +1,4 @@
+-- `gesture::states::pairing_ok` meets its contract. Assumes nothing.
 use Rattle.panel.proofs.Follow.{follow}
 use Rattle.gesture.specs.Parts.{pairingPart}
 use borrow.Author.Needs.{needs}

@@ -1,3 +1,4 @@
+-- `gesture::states::raw_ok` meets its contract. Assumes nothing.
 use Rattle.panel.proofs.Follow.{follow}
 use Rattle.gesture.specs.States.{rawRule}
 use Rattle.gesture.proofs.states.raw_ok.Statement.{statement}

@@ -1,3 +1,4 @@
+-- `gesture::states::state_ok` meets its contract. Assumes nothing.
 use mathlib.Core.Path.{sym, _∙_}
 use Rattle.gesture.proofs.Rule.{rule-is-parts}
 use borrow.Author.Needs.{needs}

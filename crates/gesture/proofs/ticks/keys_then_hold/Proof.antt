@@ -1,3 +1,4 @@
+-- `gesture::ticks::keys_then_hold` meets its contract. Assumes nothing.
 use Rattle.panel.proofs.Follow.{follow}
 use Rattle.gesture.specs.Ticks.{keysThenHold}
 use borrow.Author.Needs.{needs}

@@ -1,3 +1,4 @@
+-- `gesture::ticks::still_down` meets its contract. Assumes nothing.
 use Rattle.panel.proofs.Follow.{follow}
 use Rattle.gesture.specs.Ticks.{stillDown}
 use borrow.Author.Needs.{needs}

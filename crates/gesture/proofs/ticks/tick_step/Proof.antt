@@ -1,3 +1,4 @@
+-- `gesture::ticks::tick_step` meets its contract. Assumes nothing.
 use Rattle.panel.proofs.Follow.{follow}
 use Rattle.gesture.specs.Ticks.{tickStep}
 use borrow.Author.Needs.{needs}

@@ -1,3 +1,4 @@
+-- `touchcal::fitting::fit_held` meets its contract. Assumes nothing.
 use Rattle.panel.proofs.Follow.{follow}
 use Rattle.touchcal.specs.Held.{fitHeld}
 use borrow.Author.Needs.{needs}

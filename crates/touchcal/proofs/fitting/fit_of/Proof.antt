@@ -1,3 +1,4 @@
+-- `touchcal::fitting::fit_of` meets its contract. Assumes nothing.
 use mathlib.Core.Path.{sym, _∙_}
 use native.Mathlib.Omega.{arith}
 use Rattle.touchcal.specs.Floats.{identity}

@@ -1,3 +1,4 @@
+-- `touchcal::fitting::fit_with` meets its contract. Assumes nothing.
 use borrow.Author.Needs.{needs}
 use Rattle.touchcal.proofs.fitting.fit_with.Statement.{statement}
 use Rattle.touchcal.proofs.fitting.fit_with.Tie as tie

@@ -1,3 +1,4 @@
+-- `touchcal::fitting::judged_by` meets its contract. Assumes nothing.
 use Rattle.panel.proofs.Follow.{follow}
 use borrow.Author.Needs.{needs}
 use Rattle.touchcal.proofs.fitting.judged_by.Statement.{statement}

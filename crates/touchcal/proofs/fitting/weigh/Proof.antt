@@ -1,3 +1,4 @@
+-- `touchcal::fitting::weigh` meets its contract. Assumes nothing.
 use borrow.Author.Needs.{needs}
 use Rattle.touchcal.proofs.fitting.weigh.Statement.{statement}
 use Rattle.touchcal.proofs.fitting.weigh.Tie as tie

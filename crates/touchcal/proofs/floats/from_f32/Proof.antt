@@ -1,3 +1,4 @@
+-- `touchcal::floats::from_f32` meets its contract. Assumes nothing.
 use Rattle.panel.proofs.Follow.{follow}
 use Rattle.touchcal.specs.Floats.{fromF32Of}
 use borrow.Author.Needs.{needs}

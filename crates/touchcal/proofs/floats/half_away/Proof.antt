@@ -1,3 +1,4 @@
+-- `touchcal::floats::half_away` meets its contract. Assumes nothing.
 use lib.Ieee.{ofBits}
 use Rattle.panel.proofs.Follow.{follow}
 use Rattle.touchcal.specs.Floats.{halfAway}

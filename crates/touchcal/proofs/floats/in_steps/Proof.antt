@@ -1,3 +1,4 @@
+-- `touchcal::floats::in_steps` meets its contract. Assumes nothing.
 use Rattle.touchcal.specs.Floats.{stepsOf, inSteps}
 use borrow.Author.Needs.{needs}
 use Rattle.touchcal.proofs.floats.in_steps.Statement.{statement}

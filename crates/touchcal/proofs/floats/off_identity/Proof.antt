@@ -1,3 +1,4 @@
+-- `touchcal::floats::off_identity` meets its contract. Assumes nothing.
 use mathlib.Core.Path.{refl}
 use lib.Ieee.{ofBits}
 use Rattle.touchcal.specs.Floats.{offIdentity}

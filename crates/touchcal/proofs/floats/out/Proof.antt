@@ -1,3 +1,4 @@
+-- `touchcal::floats::out` meets its contract. Assumes nothing.
 use mathlib.Core.Path.{_≡_, ap, _∙_}
 use lib.Ieee.{Float, ofBits}
 use mir.Syntax.{w32}

@@ -1,3 +1,4 @@
+-- `touchcal::floats::to_f32` meets its contract. Assumes nothing.
 use lib.Ieee.{ofBits}
 use Rattle.touchcal.specs.Floats.{toF32Of}
 use borrow.Author.Needs.{needs}

@@ -1,3 +1,4 @@
+-- `touchcal::moments::add_about` meets its contract. Assumes nothing.
 use Rattle.touchcal.specs.Moments.{addAbout}
 use borrow.Author.Needs.{needs}
 use Rattle.touchcal.proofs.moments.add_about.Statement.{statement}

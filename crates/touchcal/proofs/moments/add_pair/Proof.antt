@@ -1,3 +1,4 @@
+-- `touchcal::moments::add_pair` meets its contract. Assumes nothing.
 use Rattle.touchcal.specs.Moments.{addPair}
 use borrow.Author.Needs.{needs}
 use Rattle.touchcal.proofs.moments.add_pair.Statement.{statement}

@@ -1,3 +1,4 @@
+-- `touchcal::moments::moments_of` meets its contract. Assumes nothing.
 use native.Mathlib.Omega.{arith}
 use Rattle.touchcal.specs.Moments.{momentsOf}
 use Rattle.touchcal.proofs.Folds.{first-many}

@@ -1,3 +1,4 @@
+-- `touchcal::moments::place_of` meets its contract. Assumes nothing.
 use mathlib.Core.Path.{_≡_}
 use mir.Syntax.{w16}
 use mir.Val.{toZ, ofZ}

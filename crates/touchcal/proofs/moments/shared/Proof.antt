@@ -1,3 +1,4 @@
+-- `touchcal::moments::shared` meets its contract. Assumes nothing.
 use native.Mathlib.Omega.{arith}
 use Prim.Native.Nat.{_^_}
 use lib.Dec.{le→leb}

@@ -1,3 +1,4 @@
+-- `touchcal::scpi::cleared` meets its contract. Assumes nothing.
 use borrow.Author.Needs.{needs}
 use Rattle.touchcal.proofs.scpi.cleared.Statement.{statement}
 use Rattle.touchcal.proofs.scpi.cleared.Tie as tie

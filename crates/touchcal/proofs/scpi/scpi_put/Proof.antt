@@ -1,3 +1,4 @@
+-- `touchcal::scpi::scpi_put` meets its contract. Assumes nothing.
 use Rattle.touchcal.specs.Scpi.{putOf}
 use borrow.Author.Needs.{needs}
 use Rattle.touchcal.proofs.scpi.scpi_put.Statement.{statement}

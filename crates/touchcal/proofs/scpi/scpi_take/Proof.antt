@@ -1,3 +1,4 @@
+-- `touchcal::scpi::scpi_take` meets its contract. Assumes nothing.
 use Rattle.panel.proofs.Follow.{follow}
 use Rattle.touchcal.specs.Scpi.{takeOf}
 use borrow.Author.Needs.{needs}

@@ -1,3 +1,4 @@
+-- `touchcal::solving::deltas` meets its contract. Assumes nothing.
 use mathlib.Core.Path.{refl}
 use lib.Ieee.{ofBits}
 use Rattle.touchcal.specs.Solutions.{deltasOf}

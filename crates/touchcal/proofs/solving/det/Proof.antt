@@ -1,3 +1,4 @@
+-- `touchcal::solving::det` meets its contract. Assumes nothing.
 use mathlib.Core.Path.{refl}
 use Rattle.touchcal.specs.Solutions.{detOf}
 use Rattle.touchcal.proofs.solving.det.Statement.{statement}

@@ -1,3 +1,4 @@
+-- `touchcal::solving::is_spread` meets its contract. Assumes nothing.
 use Rattle.panel.proofs.Follow.{follow}
 use lib.Ieee.{ofBits}
 use Rattle.touchcal.specs.Solutions.{spreads}

@@ -1,3 +1,4 @@
+-- `touchcal::solving::plane` meets its contract. Assumes nothing.
 use Rattle.touchcal.specs.Solutions.{coefsOf}
 use borrow.Author.Needs.{needs}
 use Rattle.touchcal.proofs.solving.plane.Statement.{statement}

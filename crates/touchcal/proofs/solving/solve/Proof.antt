@@ -1,3 +1,4 @@
+-- `touchcal::solving::solve` meets its contract. Assumes nothing.
 use Rattle.panel.proofs.Follow.{follow}
 use Prim.Native.Nat.{_<_, _≤_}
 use lib.ListN.{length, take}

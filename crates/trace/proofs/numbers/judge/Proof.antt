@@ -1,3 +1,4 @@
+-- `trace::numbers::judge` meets its contract. Assumes nothing.
 use borrow.Author.Needs.{needs}
 use Rattle.panel.proofs.Follow.{follow}
 use Rattle.trace.specs.Groups.{judgedAs}

@@ -1,3 +1,4 @@
+-- `trace::numbers::next_number` meets its contract. Assumes nothing.
 use Prim.Native.Nat.{_≤_}
 use mathlib.Core.Path.{_≡_, sym, subst}
 use denote.Ref.{now}

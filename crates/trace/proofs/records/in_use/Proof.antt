@@ -1,3 +1,4 @@
+-- `trace::records::in_use` meets its contract. Assumes nothing.
 use borrow.Author.Needs.{needs}
 use Rattle.panel.specs.Points.{fingers}
 use Rattle.trace.proofs.records.in_use.Statement.{statement}

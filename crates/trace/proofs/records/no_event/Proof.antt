@@ -1,3 +1,4 @@
+-- `trace::records::no_event` meets its contract. Assumes nothing.
 use borrow.Author.Needs.{needs}
 use Rattle.trace.proofs.records.no_event.Statement.{statement}
 use Rattle.trace.proofs.records.no_event.Tie as tie

@@ -1,3 +1,4 @@
+-- `trace::records::of_kind` meets its contract. Assumes nothing.
 use borrow.Author.Needs.{needs}
 use Rattle.panel.proofs.Follow.{follow}
 use Rattle.trace.specs.Records.{ofKind}

@@ -1,3 +1,4 @@
+-- `trace::records::open` meets its contract. Assumes nothing.
 use borrow.Author.Needs.{needs}
 use Rattle.panel.proofs.Follow.{follow}
 use Rattle.trace.proofs.records.open.Statement.{statement}

@@ -1,3 +1,4 @@
+-- `trace::records::refuse` meets its contract. Assumes nothing.
 use borrow.Author.Needs.{needs}
 use Rattle.trace.proofs.records.refuse.Statement.{statement}
 use Rattle.trace.proofs.records.refuse.Tie as tie

@@ -1,3 +1,4 @@
+-- `trace::records::report_from` meets its contract. Assumes nothing.
 use borrow.Author.Needs.{needs}
 use Rattle.trace.proofs.Spotting.{report-is}
 use Rattle.trace.proofs.records.report_from.Statement.{statement}

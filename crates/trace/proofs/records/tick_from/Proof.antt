@@ -1,3 +1,4 @@
+-- `trace::records::tick_from` meets its contract. Assumes nothing.
 use borrow.Author.Needs.{needs}
 use Rattle.panel.proofs.Follow.{follow}
 use Rattle.trace.specs.Records.{tickFrom}

@@ -1,3 +1,4 @@
+-- `trace::writing::size` meets its contract. Assumes nothing.
 use Prim.Native.Nat.{_-_, _/_, ℕ, _<_}
 use mathlib.Core.Path.{sym, ap}
 use native.Mathlib.Omega.{arith}

@@ -1,3 +1,4 @@
+-- `trace::writing::flag` meets its contract. Assumes nothing.
 use Rattle.panel.proofs.Follow.{follow}
 use Rattle.trace.proofs.writing.flag.Statement.{statement}
 use Rattle.trace.proofs.writing.flag.Tie as tie

@@ -1,3 +1,4 @@
+-- `trace::writing::report_numbers` meets its contract. Assumes nothing.
 use Prim.Native.Nat.{_*_}
 use mathlib.Core.Path.{ap, _∙_}
 use mathlib.Core.List.{_∷_}

@@ -1,3 +1,4 @@
+-- `trace::writing::short` meets its contract. Assumes nothing.
 use native.Mathlib.Omega.{arith}
 use Rattle.trace.proofs.Gathered.{short-law}
 use Rattle.trace.proofs.writing.short.Statement.{statement}
