@@ -1,0 +1,61 @@
+-- `probe::args::and_more` is safe and ends. Assumes nothing.
+use Prim.Native.Nat.{_≤_, _-_}
+use mathlib.Core.Path.{_≡_}
+use native.Mathlib.Omega.{arith}
+use borrow.Author.Needs.{needs}
+use lib.ListN.{length}
+use Rattle.probe.proofs.args.and_more.Statement.{statement}
+use Rattle.probe.proofs.args.and_more.Tie as tie
+use Rattle.probe.proofs.args.and_more.Reads as reads
+use Rattle.probe.proofs.args.and_more.Lts as lts
+use Rattle.probe.proofs.args.slot.Reads as slot-reads
+use Rattle.trace.proofs.next_number.Reads as next-number-reads
+
+abbrev Inv-loop : tie.InvT-loop
+Inv-loop s from until most v₀ to₀ i₀ v to i = length v ≡ 16
+
+abbrev μ-loop : tie.MeasureT-loop
+μ-loop s from until most v₀ to₀ i₀ v to i = until - i
+
+loop-holds : tie.Need-loop-holds Inv-loop μ-loop
+loop-holds c = search needs
+
+next-number-requires : tie.Need-next-number-requires Inv-loop μ-loop
+next-number-requires c κs = search needs
+
+slot-requires : tie.Need-slot-requires Inv-loop μ-loop
+slot-requires c κs = search needs
+
+mul-v : tie.Need-mul-v Inv-loop μ-loop
+mul-v c = search needs
+
+array-write-v : tie.Need-array-write-v Inv-loop μ-loop
+array-write-v c = search needs
+
+add-i : tie.Need-add-i Inv-loop μ-loop
+add-i c = search needs
+
+loop-less : tie.Need-loop-less Inv-loop μ-loop
+loop-less c = search needs
+
+loop-again : tie.Need-loop-again Inv-loop μ-loop
+loop-again c = search needs
+
+returns : tie.Need-returns Inv-loop μ-loop
+returns c = search needs
+
+pub and-more-spec : {M : Type 1} → statement M
+and-more-spec =
+    tie.close
+    (tie.spec
+    Inv-loop
+    μ-loop
+    loop-holds
+    next-number-requires
+    slot-requires
+    mul-v
+    array-write-v
+    add-i
+    loop-less
+    loop-again
+    returns)

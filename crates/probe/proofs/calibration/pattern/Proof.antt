@@ -1,0 +1,51 @@
+-- `probe::calibration::pattern` is safe and ends. Assumes nothing.
+use Rattle.probe.proofs.Floats.{itself}
+use borrow.Author.Needs.{needs}
+use Rattle.probe.proofs.calibration.pattern.Statement.{statement}
+use Rattle.probe.proofs.calibration.pattern.Tie as tie
+use Rattle.probe.proofs.calibration.pattern.Reads as reads
+use Rattle.probe.proofs.calibration.pattern.Lts as lts
+use Rattle.probe.proofs.calibration.wide.Reads as wide-reads
+use Rattle.probe.proofs.lines.number.Reads as number-reads
+use Rattle.probe.proofs.lines.word.Reads as word-reads
+
+float-to-bits-wide : tie.Need-float-to-bits-wide
+float-to-bits-wide c = search (needs, itself)
+
+wide-requires : tie.Need-wide-requires
+wide-requires c κs = search needs
+
+number-requires : tie.Need-number-requires
+number-requires c κs = search needs
+
+same-length : tie.Need-same-length
+same-length c = search needs
+
+returns : tie.Need-returns
+returns c = search needs
+
+slice-aggregate-word : tie.Need-slice-aggregate-word
+slice-aggregate-word c = search needs
+
+word-requires : tie.Need-word-requires
+word-requires c κs = search needs
+
+same-length-2 : tie.Need-same-length-2
+same-length-2 c = search needs
+
+returns-2 : tie.Need-returns-2
+returns-2 c = search needs
+
+pub pattern-spec : {M : Type 1} → statement M
+pattern-spec =
+    tie.close
+    (tie.spec
+    float-to-bits-wide
+    wide-requires
+    number-requires
+    same-length
+    returns
+    slice-aggregate-word
+    word-requires
+    same-length-2
+    returns-2)

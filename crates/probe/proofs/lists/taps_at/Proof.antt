@@ -1,0 +1,85 @@
+-- `probe::lists::taps_at` is safe and ends. Assumes nothing.
+use Prim.Native.Nat.{_≤_, _-_}
+use mathlib.Core.Path.{_≡_}
+use native.Mathlib.Omega.{arith}
+use borrow.Author.Needs.{needs}
+use lib.ListN.{length}
+use Rattle.probe.proofs.lists.taps_at.Statement.{statement}
+use Rattle.probe.proofs.lists.taps_at.Tie as tie
+use Rattle.probe.proofs.lists.taps_at.Reads as reads
+use Rattle.probe.proofs.lists.taps_at.Lts as lts
+use Rattle.probe.proofs.args.low8.Reads as low8-reads
+use Rattle.probe.proofs.lists.no_taps.Reads as no-taps-reads
+use Rattle.probe.proofs.lists.slot.Reads as slot-reads
+use Rattle.probe.proofs.lists.spot_at.Reads as spot-at-reads
+use Rattle.probe.proofs.lists.tap.Reads as tap-reads
+use Rattle.trace.proofs.next_number.Reads as next-number-reads
+
+abbrev Inv-loop : tie.InvT-loop
+Inv-loop s n list₀ to₀ i₀ list to i = (n ≤ 255) × (length list ≡ 64)
+
+abbrev μ-loop : tie.MeasureT-loop
+μ-loop s n list₀ to₀ i₀ list to i = n - i
+
+next-number-requires : tie.Need-next-number-requires Inv-loop μ-loop
+next-number-requires c κs = search needs
+
+low8-requires : tie.Need-low8-requires Inv-loop μ-loop
+low8-requires c κs = search needs
+
+cast-n : tie.Need-cast-n Inv-loop μ-loop
+cast-n c = search needs
+
+no-taps-requires : tie.Need-no-taps-requires Inv-loop μ-loop
+no-taps-requires c κs = search needs
+
+loop-holds : tie.Need-loop-holds Inv-loop μ-loop
+loop-holds c = search needs
+
+spot-at-requires : tie.Need-spot-at-requires Inv-loop μ-loop
+spot-at-requires c κs = search needs
+
+tap-requires : tie.Need-tap-requires Inv-loop μ-loop
+tap-requires c κs = search needs
+
+slot-requires : tie.Need-slot-requires Inv-loop μ-loop
+slot-requires c κs = search needs
+
+mul-list : tie.Need-mul-list Inv-loop μ-loop
+mul-list c = search needs
+
+array-set-from-list : tie.Need-array-set-from-list Inv-loop μ-loop
+array-set-from-list c = search needs
+
+add-i : tie.Need-add-i Inv-loop μ-loop
+add-i c = search needs
+
+loop-less : tie.Need-loop-less Inv-loop μ-loop
+loop-less c = search needs
+
+loop-again : tie.Need-loop-again Inv-loop μ-loop
+loop-again c = search needs
+
+returns : tie.Need-returns Inv-loop μ-loop
+returns c = search needs
+
+pub taps-at-spec : {M : Type 1} → statement M
+taps-at-spec =
+    tie.close
+    (tie.spec
+    Inv-loop
+    μ-loop
+    next-number-requires
+    low8-requires
+    cast-n
+    no-taps-requires
+    loop-holds
+    spot-at-requires
+    tap-requires
+    slot-requires
+    mul-list
+    array-set-from-list
+    add-i
+    loop-less
+    loop-again
+    returns)

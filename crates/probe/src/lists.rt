@@ -1,0 +1,119 @@
+// Lists of taps and of targets: a count and that many points. A call can use MAX_TAPS of them; more are read
+// and counted, and the call refuses them by the count.
+ghost use Prim.Native.Nat.{_<_};
+use crate::args;
+use calmap::MAX_TAPS;
+use calmap::Pair;
+use calmap::Tap;
+use panel::Point;
+use trace::Cursor;
+
+pub struct Taps {
+    pub list: [Tap; MAX_TAPS],
+    pub n: usize,
+    pub to: Cursor,
+}
+
+pub struct Targets {
+    pub list: [Point; MAX_TAPS],
+    pub n: usize,
+    pub to: Cursor,
+}
+
+// Raw taps beside their targets, as many as the shorter list has.
+pub struct Beside {
+    pub list: [Pair; MAX_TAPS],
+    pub n: usize,
+}
+
+struct Spot {
+    x: u64,
+    y: u64,
+    to: Cursor,
+}
+
+fn spot_at(s: &[u8], c: Cursor) -> Spot {
+    let x = trace::next_number(s, c, args::MOST_16);
+    let cx = x.to;
+    let y = trace::next_number(s, cx, args::MOST_16);
+    let to = y.to;
+    Spot {
+        x: x.v,
+        y: y.v,
+        to,
+    }
+}
+
+fn tap(x: u64, y: u64) -> Tap {
+    Tap {
+        x: args::signed16(x),
+        y: args::signed16(y),
+    }
+}
+
+fn no_taps() -> [Tap; MAX_TAPS] {
+    [Tap { x: 0, y: 0 }; MAX_TAPS]
+}
+
+fn no_targets() -> [Point; MAX_TAPS] {
+    [Point { x: 0, y: 0 }; MAX_TAPS]
+}
+
+// The place of a point. What a call cannot use goes over the last: it is refused by the count.
+fn slot(i: usize) -> usize
+    ensures { λ r. ⌜ r < 64 ⌝ }
+{
+    if i < MAX_TAPS { i } else { MAX_TAPS - 1 }
+}
+
+pub fn taps_at(s: &[u8], c: Cursor) -> Taps {
+    let count = trace::next_number(s, c, args::MOST_8);
+    let n = args::low8(count.v) as usize;
+    let mut list = no_taps();
+    let mut to = count.to;
+    let mut i = 0;
+    while i < n {
+        let p = spot_at(s, to);
+        to = p.to;
+        let q = tap(p.x, p.y);
+        let k = slot(i);
+        list[k] = q;
+        i += 1;
+    }
+    Taps { list, n, to }
+}
+
+pub fn targets_at(s: &[u8], c: Cursor) -> Targets {
+    let count = trace::next_number(s, c, args::MOST_8);
+    let n = args::low8(count.v) as usize;
+    let mut list = no_targets();
+    let mut to = count.to;
+    let mut i = 0;
+    while i < n {
+        let p = spot_at(s, to);
+        to = p.to;
+        let q = args::point(p.x, p.y);
+        let k = slot(i);
+        list[k] = q;
+        i += 1;
+    }
+    Targets { list, n, to }
+}
+
+pub fn side_by_side(a: Taps, b: Taps) -> Beside {
+    let raw = a.list;
+    let tgt = b.list;
+    let p = Tap { x: 0, y: 0 };
+    let mut list = [Pair { raw: p, tgt: p }; MAX_TAPS];
+    let mut i = 0;
+    while i < MAX_TAPS {
+        let q = raw[i];
+        let t = tgt[i];
+        list[i] = Pair { raw: q, tgt: t };
+        i += 1;
+    }
+    if a.n < b.n {
+        return Beside { list, n: a.n };
+    }
+    Beside { list, n: b.n }
+}

@@ -1,0 +1,254 @@
+//! Both sides on the same inputs, line by line; and, where they differ, the smallest input that shows it.
+use crate::answers::Side;
+use crate::inputs::{any_load, bytes_of, damaged, plain, trace_of, Call, Dice, Hand};
+use crate::play::played;
+use std::io::Write;
+use std::process::{Command, Stdio};
+
+/// How the programs are run: words in front of each (an emulator, say), and the folder that they are in.
+pub struct Programs {
+    pub words: Vec<String>,
+    pub folder: String,
+}
+
+impl Programs {
+    pub fn run(&self, name: &str, input: &[u8]) -> Vec<u8> {
+        let mut words = self.words.clone();
+        words.push(format!("{}/{name}", self.folder));
+        let mut child = Command::new(&words[0])
+            .args(&words[1..])
+            .stdin(Stdio::piped())
+            .stdout(Stdio::piped())
+            .spawn()
+            .expect("the program runs");
+        let mut stdin = child.stdin.take().unwrap();
+        let input = input.to_vec();
+        // a program may stop reading: that it did shows in what it wrote
+        let writer = std::thread::spawn(move || drop(stdin.write_all(&input)));
+        let out = child.wait_with_output().expect("the program ends");
+        writer.join().unwrap();
+        assert!(out.status.success(), "{name} ended with {}", out.status);
+        out.stdout
+    }
+}
+
+/// The calls under 30, of which each gets as many as asked for.
+pub const PLAIN: [u64; 16] = [1, 2, 3, 4, 10, 11, 12, 13, 14, 15, 16, 17, 18, 19, 20, 21];
+/// The calls of a tracker, which come in histories.
+const TRACKER: u64 = 9;
+/// A run's bytes, with room for one more call under the probe's limit.
+const RUN_MOST: usize = 1_000_000;
+
+pub struct Tally {
+    pub calls: u64,
+    pub records: u64,
+    pub runs: u64,
+}
+
+fn lines(b: &[u8]) -> u64 {
+    b.iter().filter(|&&b| b == b'\n').count() as u64
+}
+
+/// Holds the two sides of some probe input against each other; a difference ends the comparison.
+fn held(p: &Programs, input: &[u8], rust: &[u8], calls: Option<&[Call]>) -> u64 {
+    let here = p.run("probe", input);
+    if here == rust {
+        return lines(rust) - 1;
+    }
+    match calls {
+        Some(calls) => shrunk_calls(p, calls.to_vec()),
+        None => shrunk_bytes("probe", input.to_vec(), &|b| (Side::new().run(b), p.run("probe", b))),
+    }
+}
+
+fn differs(p: &Programs, calls: &[Call]) -> bool {
+    let input = bytes_of(calls);
+    p.run("probe", &input) != Side::new().run(&input)
+}
+
+/// The calls without those that the difference does not need, and with smaller numbers.
+fn shrunk_calls(p: &Programs, mut calls: Vec<Call>) -> ! {
+    let mut chunk = calls.len();
+    while chunk > 0 {
+        let mut k = calls.len();
+        while k > 0 {
+            let from = k.saturating_sub(chunk);
+            let mut fewer = calls.clone();
+            fewer.drain(from..k);
+            if differs(p, &fewer) {
+                calls = fewer;
+            }
+            k = from;
+        }
+        chunk /= 2;
+    }
+    for i in 0..calls.len() {
+        for j in 1..calls[i].len() {
+            for v in [0, calls[i][j] / 2, calls[i][j].saturating_sub(1)] {
+                let mut less = calls.clone();
+                less[i][j] = v;
+                if v < calls[i][j] && differs(p, &less) {
+                    calls = less;
+                }
+            }
+        }
+    }
+    let input = bytes_of(&calls);
+    told("probe", &input, &Side::new().run(&input), &p.run("probe", &input))
+}
+
+/// Bytes without those that the difference does not need.
+fn shrunk_bytes(name: &str, mut bytes: Vec<u8>, both: &dyn Fn(&[u8]) -> (Vec<u8>, Vec<u8>)) -> ! {
+    let mut chunk = bytes.len();
+    while chunk > 0 {
+        let mut k = bytes.len();
+        while k > 0 {
+            let from = k.saturating_sub(chunk);
+            let mut fewer = bytes.clone();
+            fewer.drain(from..k);
+            let (a, b) = both(&fewer);
+            if a != b {
+                bytes = fewer;
+            }
+            k = from;
+        }
+        chunk /= 2;
+    }
+    let (a, b) = both(&bytes);
+    told(name, &bytes, &a, &b)
+}
+
+fn told(name: &str, input: &[u8], rust: &[u8], here: &[u8]) -> ! {
+    let hex: Vec<String> = input.iter().map(|b| format!("{b:02X}")).collect();
+    println!("{name} differs, smallest input in hex: {}", hex.join(" "));
+    println!("the Rust:\n{}here:\n{}", String::from_utf8_lossy(rust), String::from_utf8_lossy(here));
+    std::process::exit(1);
+}
+
+/// A history of a tracker, call by call: a fresh tracker, then what a hand does, and now and then a load.
+fn history(d: &mut Dice, side: &mut Side, calls: &mut Vec<Call>, n: u64) {
+    let mut hand = Hand::new(d);
+    let make = |c: Call, side: &mut Side, calls: &mut Vec<Call>| {
+        side.make(&bytes_of(std::slice::from_ref(&c)));
+        calls.push(c);
+    };
+    make(vec![30], side, calls);
+    for _ in 1..n {
+        let c = if d.one_in(30) { any_load(d, &side.tracker.fields()) } else { hand.call(d) };
+        make(c, side, calls);
+    }
+}
+
+/// A run's worth of calls, no more of a kind than are left to make.
+fn batch(d: &mut Dice, left: &mut [u64], tracker: &mut u64) -> (Vec<Call>, Side) {
+    let (mut calls, mut side, mut size, mut measured) = (Vec::new(), Side::new(), 0, 0);
+    while size < RUN_MOST && (*tracker > 0 || left.iter().any(|&n| n > 0)) {
+        let k = d.under(PLAIN.len() as u64 + TRACKER) as usize;
+        if k < PLAIN.len() {
+            if left[k] > 0 {
+                left[k] -= 1;
+                let c = plain(d, PLAIN[k]);
+                side.make(&bytes_of(std::slice::from_ref(&c)));
+                calls.push(c);
+            }
+        } else if *tracker > 0 {
+            let n = (1 + d.under(17)).min(*tracker);
+            // one in eight goes on for long
+            let n = if d.one_in(8) { (n * 20).min(*tracker) } else { n };
+            history(d, &mut side, &mut calls, n);
+            *tracker -= n;
+        }
+        size += calls[measured..].iter().map(|c| bytes_of(std::slice::from_ref(c)).len()).sum::<usize>();
+        measured = calls.len();
+    }
+    (calls, side)
+}
+
+/// A trace of so many calls of a hand.
+pub fn any_trace(d: &mut Dice, n: u64) -> Vec<u8> {
+    let mut hand = Hand::new(d);
+    let calls: Vec<Call> = (0..n).map(|_| hand.call(d)).collect();
+    trace_of(&calls)
+}
+
+fn play_held(p: &Programs, trace: &[u8], t: &mut Tally) {
+    let rust = played(trace);
+    let here = p.run("play", trace);
+    if here != rust {
+        shrunk_bytes("play", trace.to_vec(), &|b| (played(b), p.run("play", b)));
+    }
+    t.runs += 1;
+    // the records that were read: the count of the last line, or as many as have a line
+    let last = rust.trim_ascii_end().rsplit(|&b| b == b'\n').next().unwrap();
+    let count = String::from_utf8_lossy(last).strip_prefix("end ").and_then(|n| n.parse().ok());
+    t.records += count.unwrap_or(lines(&rust));
+}
+
+/// N inputs of each kind, from one seed.
+pub fn compared(p: &Programs, n: u64, seed: u64) -> Tally {
+    let mut d = Dice(seed);
+    let mut t = Tally { calls: 0, records: 0, runs: 0 };
+    let mut left = [n; PLAIN.len()];
+    let mut tracker = TRACKER * n;
+    while tracker > 0 || left.iter().any(|&n| n > 0) {
+        let (calls, side) = batch(&mut d, &mut left, &mut tracker);
+        let input = bytes_of(&calls);
+        t.calls += held(p, &input, &side.ended(), Some(&calls));
+        t.runs += 1;
+        // copies with something wrong, of a part: what comes before the damage was compared above
+        for _ in 0..4 {
+            let from = d.under(calls.len() as u64) as usize;
+            let some: Vec<Call> = calls[from..].iter().take(40).cloned().collect();
+            let bad = damaged(&mut d, &bytes_of(&some));
+            t.calls += held(p, &bad, &Side::new().run(&bad), None);
+            t.runs += 1;
+        }
+    }
+    for k in 0..n / 2_000 + 20 {
+        let size = if k % 10 == 0 { 4_000 } else { 1 + d.under(400) };
+        let trace = any_trace(&mut d, size);
+        play_held(p, &trace[..trace.len().min(70_000)], &mut t);
+        let bad = damaged(&mut d, &trace[..trace.len().min(400)]);
+        play_held(p, &bad, &mut t);
+    }
+    t
+}
+
+/// Short inputs, all of them: traces of at most one byte behind the version, runs of one byte, the roots, the axes
+/// and the key masks.
+pub fn exhausted(p: &Programs) -> Tally {
+    let mut t = Tally { calls: 0, records: 0, runs: 0 };
+    play_held(p, &[], &mut t);
+    for b in 0..=255 {
+        play_held(p, &[b], &mut t);
+        play_held(p, &[1, b], &mut t);
+        t.calls += held(p, &[b], &Side::new().run(&[b]), None);
+        t.runs += 1;
+    }
+    for n in [65_535, 65_536, 65_537, 70_000] {
+        let mut trace = vec![1];
+        trace.resize(n, 3);
+        play_held(p, &trace, &mut t);
+    }
+    let mut calls: Vec<Call> = (0..20_000).map(|v| vec![12, v]).collect();
+    calls.extend((0..97 * 97).map(|k| vec![4, k / 97, k % 97]));
+    let input = bytes_of(&calls);
+    t.calls += held(p, &input, &Side::new().run(&input), Some(&calls));
+    // every told mask against every wanted one, and the tick after it
+    for told in 0..=255u64 {
+        let mut calls = Vec::new();
+        for wanted in 0..=255u64 {
+            let f = crate::gesture::Fields { keys: told as u8, keys_want: told as u8, ..Default::default() };
+            let b = crate::image::of(&f);
+            let mut load = vec![38, b.len() as u64];
+            load.extend(b.iter().map(|&b| u64::from(b)));
+            let mut report = vec![31, 0, wanted, 0];
+            report.resize(16, 0);
+            calls.extend([load, report, vec![32, 1]]);
+        }
+        let input = bytes_of(&calls);
+        t.calls += held(p, &input, &Side::new().run(&input), Some(&calls));
+        t.runs += 1;
+    }
+    t
+}
