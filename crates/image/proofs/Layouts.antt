@@ -2,11 +2,11 @@
 -- fits its width, reading at the rows' places gives the numbers back. Assumes nothing.
 use Prim.Native.Nat.{ℕ, zero, suc, _+_, _*_, _%_, _/_, _^_, _≤_, _<_}
 use mathlib.Core.Path.{_≡_, refl, sym, _∙_, ap}
-use mathlib.Core.List.{List, [], _∷_, _++_, map, append-assoc, append-nil}
+use mathlib.Core.List.{List, [], _∷_, _++_, append-assoc, append-nil}
 use native.Mathlib.Nat.{add-zero, pow-suc, div-add-mod, div-lt-iff-lt-mul}
 use native.Mathlib.Omega.{arith}
 use lib.Dec.{lit<}
-use lib.ListN.{length, take, drop, length-append}
+use lib.ListN.{length, getD, take, drop, length-append}
 use lib.Seq.{length-take-le, sets, length-sets, sets-eq, take-at, take-length, getD-at}
 use Rattle.image.specs.Rows.{Row, bytesOf, laid}
 use Rattle.image.specs.Puts.{puts}
@@ -77,11 +77,38 @@ abbrev pub Fits : List Row → Type 0
 Fits [] = Unit {0}
 Fits (r ∷ rows) = (r .number < 256 ^ r .width) × Fits rows
 
-pub read-back : (rows : List Row) (pre : List ℕ) (at : ℕ) → length pre ≡ at → Fits rows → numbersAt rows (pre ++ laid rows) at ≡ numbersIn rows
+pub fits-join : (xs ys : List Row) → Fits xs → Fits ys → Fits (xs ++ ys)
+fits-join [] ys f g = g
+fits-join (r ∷ xs) ys f g = (f .0, fits-join xs ys (f .1) g)
+
+read-back : (rows : List Row) (pre rest : List ℕ) (at : ℕ) → length pre ≡ at → Fits rows → numbersAt rows (pre ++ (laid rows ++ rest)) at ≡ numbersIn rows
 unfolding numbersAt numbersIn laid
-read-back [] pre at e f = refl
-read-back (r ∷ rows) pre at e f =
+read-back [] pre rest at e f = refl
+read-back (r ∷ rows) pre rest at e f =
     let vs = bytesOf (r .width) (r .number) in
-    let b : pre ++ (vs ++ laid rows) ≡ (pre ++ vs) ++ laid rows = sym (append-assoc pre vs (laid rows)) in
-    let ih = read-back rows (pre ++ vs) (at + r .width) (length-append pre vs ∙ (λ i. e i + length-bytes (r .width) (r .number) i)) (f .1) in
-    λ i. number-back (r .width) (r .number) pre (laid rows) at e (f .0) i ∷ (ap (λ (l : List ℕ). numbersAt rows l (at + r .width)) b ∙ ih) i
+    let c : pre ++ ((vs ++ laid rows) ++ rest) ≡ pre ++ (vs ++ (laid rows ++ rest)) = ap (λ (l : List ℕ). pre ++ l) (append-assoc vs (laid rows) rest) in
+    let b : pre ++ (vs ++ (laid rows ++ rest)) ≡ (pre ++ vs) ++ (laid rows ++ rest) = sym (append-assoc pre vs (laid rows ++ rest)) in
+    let ih = read-back rows (pre ++ vs) rest (at + r .width) (length-append pre vs ∙ (λ i. e i + length-bytes (r .width) (r .number) i)) (f .1) in
+    let here = ap (λ (l : List ℕ). numberAt l at (r .width)) c ∙ number-back (r .width) (r .number) pre (laid rows ++ rest) at e (f .0) in
+    let later = ap (λ (l : List ℕ). numbersAt rows l (at + r .width)) (c ∙ b) ∙ ih in
+    λ i. here i ∷ later i
+
+laid-join : (xs ys : List Row) → laid (xs ++ ys) ≡ laid xs ++ laid ys
+unfolding laid
+laid-join [] ys = refl
+laid-join (r ∷ xs) ys = ap (λ (l : List ℕ). bytesOf (r .width) (r .number) ++ l) (laid-join xs ys) ∙ sym (append-assoc (bytesOf (r .width) (r .number)) (laid xs) (laid ys))
+
+-- the numbers of a part of a table, read where the part stands
+pub part-back : (before rows after : List Row) → Fits rows → numbersAt rows (laid (before ++ (rows ++ after))) (total before) ≡ numbersIn rows
+part-back before rows after f =
+    ap (λ (l : List ℕ). numbersAt rows l (total before)) (laid-join before (rows ++ after) ∙ ap (λ (l : List ℕ). laid before ++ l) (laid-join rows after))
+    ∙ read-back rows (laid before) (laid after) (total before) (length-laid before) f
+
+-- a number read from bytes fits its width
+pub number-fits : (area : List ℕ) → ((k : ℕ) → getD area k 0 < 256) → (at w : ℕ) → numberAt area at w < 256 ^ w
+unfolding numberAt
+number-fits area byte at zero = lit< tt
+number-fits area byte at (suc w) =
+    let here = byte at in
+    let later = number-fits area byte (suc at) w in
+    rw pow-suc (omega (arith, here, later))
