@@ -1,0 +1,38 @@
+-- `image::codec::store` meets its contract. Assumes nothing.
+use Rattle.image.proofs.Codecs.{store-done, store-refused}
+use borrow.Author.Needs.{needs}
+use Rattle.image.proofs.codec.store.Statement.{statement}
+use Rattle.image.proofs.codec.store.Tie as tie
+
+image-of-requires : tie.Need-image-of-requires
+image-of-requires c κs = search needs
+
+slice-aggregate-copy : tie.Need-slice-aggregate-copy
+slice-aggregate-copy c = search needs
+
+copy-requires : tie.Need-copy-requires
+copy-requires c κs = search needs
+
+same-length : tie.Need-same-length
+same-length c = search needs
+
+returns : tie.Need-returns
+returns c = store-done _ _ _ _ (c .before .before .before .before .before .before .if1 .taken) (c .before .before .before .before .before .image-of .ensures) (c .before .before .copy .ensures .1)
+
+number-requires : tie.Need-number-requires
+number-requires c κs = search needs
+
+returns-2 : tie.Need-returns-2
+returns-2 c = store-refused _ _ _ (c .number .ensures) (c .before .if1 .left)
+
+pub store-spec : {M : Type 1} → statement M
+store-spec =
+    tie.close
+    (tie.spec
+    image-of-requires
+    slice-aggregate-copy
+    copy-requires
+    same-length
+    returns
+    number-requires
+    returns-2)

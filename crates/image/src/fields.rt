@@ -1,0 +1,115 @@
+// Numbers of one, two and eight bytes in an image, low byte first, and points as two numbers of two. Each place is a
+// literal where these are called, so that the bytes of a number are loaded and stored at once.
+ghost use mathlib.Core.Path.{_≡_};
+ghost use Prim.Native.Nat.{_+_, _*_, _≤_, _<_, _/_, _%_};
+ghost use lib.Seq.{sets};
+ghost use Rattle.image.specs.Rows.{bytesOf};
+ghost use Rattle.image.specs.Image.{imageBytes, pointRows};
+ghost use Rattle.image.specs.Puts.{puts};
+ghost use Rattle.image.specs.Reading.{numberAt, pointAt};
+use crate::places::IMAGE_BYTES;
+use panel::Point;
+
+// A byte in a wider number. That it is less than 256 is said as well: a caller that takes it out of an image does not
+// know it by itself.
+fn wide8(x: u8) -> u64
+    ensures { λ r. ⌜ (r ≡ x) × (r < 256) ⌝ }
+{
+    x as u64
+}
+
+fn half(x: u8) -> u16
+    ensures { λ r. ⌜ (r ≡ x) × (r < 256) ⌝ }
+{
+    x as u16
+}
+
+pub(crate) fn put1(image: &mut [u8; IMAGE_BYTES], at: usize, v: u8)
+    requires { ⌜ at + 1 ≤ imageBytes ⌝ }
+    ensures { λ _. ⌜ now (image .exit) ≡ sets (now (image .entry)) at (bytesOf 1 v) ⌝ }
+{
+    image[at] = v;
+}
+
+pub(crate) fn put2(image: &mut [u8; IMAGE_BYTES], at: usize, v: u16)
+    requires { ⌜ at + 2 ≤ imageBytes ⌝ }
+    ensures { λ _. ⌜ now (image .exit) ≡ sets (now (image .entry)) at (bytesOf 2 v) ⌝ }
+{
+    image[at] = (v % 256) as u8;
+    image[at + 1] = (v / 256 % 256) as u8;
+}
+
+pub(crate) fn put8(image: &mut [u8; IMAGE_BYTES], at: usize, v: u64)
+    requires { ⌜ at + 8 ≤ imageBytes ⌝ }
+    ensures { λ _. ⌜ now (image .exit) ≡ sets (now (image .entry)) at (bytesOf 8 v) ⌝ }
+{
+    let v1 = v / 256;
+    let v2 = v1 / 256;
+    let v3 = v2 / 256;
+    let v4 = v3 / 256;
+    let v5 = v4 / 256;
+    let v6 = v5 / 256;
+    let v7 = v6 / 256;
+    image[at] = (v % 256) as u8;
+    image[at + 1] = (v1 % 256) as u8;
+    image[at + 2] = (v2 % 256) as u8;
+    image[at + 3] = (v3 % 256) as u8;
+    image[at + 4] = (v4 % 256) as u8;
+    image[at + 5] = (v5 % 256) as u8;
+    image[at + 6] = (v6 % 256) as u8;
+    image[at + 7] = (v7 % 256) as u8;
+}
+
+pub(crate) fn put_point(image: &mut [u8; IMAGE_BYTES], at: usize, p: Point)
+    requires { ⌜ at + 4 ≤ imageBytes ⌝ }
+    ensures { λ _. ⌜ now (image .exit) ≡ puts (now (image .entry)) at (pointRows p) ⌝ }
+{
+    put2(image, at, p.x);
+    put2(image, at + 2, p.y);
+}
+
+pub(crate) fn get1(image: &[u8; IMAGE_BYTES], at: usize) -> u8
+    requires { ⌜ at + 1 ≤ imageBytes ⌝ }
+    ensures { λ r. ⌜ r ≡ numberAt (now (image .entry)) at 1 ⌝ }
+{
+    image[at]
+}
+
+pub(crate) fn get2(image: &[u8; IMAGE_BYTES], at: usize) -> u16
+    requires { ⌜ at + 2 ≤ imageBytes ⌝ }
+    ensures { λ r. ⌜ r ≡ numberAt (now (image .entry)) at 2 ⌝ }
+{
+    let low = half(image[at]);
+    let high = half(image[at + 1]);
+    low + 256 * high
+}
+
+fn get4(image: &[u8; IMAGE_BYTES], at: usize) -> u64
+    requires { ⌜ at + 4 ≤ imageBytes ⌝ }
+    ensures { λ r. ⌜ (r ≡ numberAt (now (image .entry)) at 4) × (r < 4294967296) ⌝ }
+{
+    let b0 = wide8(image[at]);
+    let b1 = wide8(image[at + 1]);
+    let b2 = wide8(image[at + 2]);
+    let b3 = wide8(image[at + 3]);
+    b0 + 256 * (b1 + 256 * (b2 + 256 * b3))
+}
+
+pub(crate) fn get8(image: &[u8; IMAGE_BYTES], at: usize) -> u64
+    requires { ⌜ at + 8 ≤ imageBytes ⌝ }
+    ensures { λ r. ⌜ r ≡ numberAt (now (image .entry)) at 8 ⌝ }
+{
+    let low = get4(image, at);
+    let high = get4(image, at + 4);
+    low + 4294967296 * high
+}
+
+pub(crate) fn get_point(image: &[u8; IMAGE_BYTES], at: usize) -> Point
+    requires { ⌜ at + 4 ≤ imageBytes ⌝ }
+    ensures { λ r. ⌜ r ≡ pointAt (now (image .entry)) at ⌝ }
+{
+    Point {
+        x: get2(image, at),
+        y: get2(image, at + 2),
+    }
+}
