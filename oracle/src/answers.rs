@@ -5,6 +5,7 @@ use crate::image;
 use crate::numbers::{unfolded, Reader, Stop};
 use crate::touch::{self, Event, Point};
 use crate::touchcal::{self, Bad, Cal};
+use std::cell::Cell;
 use std::io::Write;
 use std::panic::catch_unwind;
 
@@ -27,9 +28,26 @@ const LIST_MOST: usize = 64;
 /// Past this a product of lock_axis might not fit.
 const LOCK_MOST: i32 = 715_827_882;
 
+thread_local! {
+    static TRYING: Cell<bool> = const { Cell::new(false) };
+}
+
+/// A panic of the Rust is an answer here, and not news; one of ours is.
+pub fn hush() {
+    let ours = std::panic::take_hook();
+    std::panic::set_hook(Box::new(move |i| {
+        if !TRYING.get() {
+            ours(i);
+        }
+    }));
+}
+
 /// What the Rust answers where it does not panic.
 fn tried<T>(f: impl FnOnce() -> T + std::panic::UnwindSafe) -> Option<T> {
-    catch_unwind(f).ok()
+    TRYING.set(true);
+    let r = catch_unwind(f).ok();
+    TRYING.set(false);
+    r
 }
 
 pub fn on_panel(p: Point) -> bool {

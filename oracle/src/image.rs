@@ -52,7 +52,7 @@ pub fn of(f: &Fields) -> Vec<u8> {
 }
 
 /// How many bytes an image has.
-pub const BYTES: usize = 86;
+pub const BYTES: usize = 83;
 
 struct Bytes<'a>(&'a [u8], usize);
 

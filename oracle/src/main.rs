@@ -68,13 +68,7 @@ fn compare(n: u64, seed: u64, rest: &[String]) {
 }
 
 fn main() {
-    // a panic of the Rust is an answer here, and not news
-    std::panic::set_hook(Box::new(|i| {
-        let ours = i.location().is_some_and(|l| !l.file().ends_with("gesture.rs") && !l.file().ends_with("touchcal.rs") && !l.file().ends_with("touch.rs"));
-        if ours {
-            eprintln!("{i}");
-        }
-    }));
+    answers::hush();
     let a: Vec<String> = std::env::args().collect();
     let words: Vec<&str> = a.iter().map(String::as_str).collect();
     match words[1..] {

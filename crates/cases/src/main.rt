@@ -5,6 +5,7 @@ mod calibration;
 mod geometry;
 mod print;
 mod tracker;
+mod writer;
 
 fn main() {
     geometry::distances();
@@ -20,4 +21,5 @@ fn main() {
     tracker::wished();
     tracker::spent();
     tracker::refused();
+    writer::rooms();
 }

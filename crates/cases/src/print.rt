@@ -11,6 +11,10 @@ pub fn number(n: u64) {
     io::print_decimal(libc::STDOUT_FILENO, n);
 }
 
+pub fn byte(b: u8) {
+    number(b as u64);
+}
+
 pub fn signed(v: i32) {
     word(b" ");
     if v < 0 {

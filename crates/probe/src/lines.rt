@@ -65,6 +65,16 @@ pub fn hex(out: &mut [u8], at: usize, b: u8) -> usize {
     byte(out, a, nibble(b % 16))
 }
 
+pub fn all_hex(out: &mut [u8], at: usize, w: &[u8]) -> usize {
+    let mut to = at;
+    let mut i = 0;
+    while i < w.len() {
+        to = hex(out, to, w[i]);
+        i += 1;
+    }
+    to
+}
+
 // How a line begins: the call's number and its refusal.
 pub fn head(out: &mut [u8], at: usize, i: u64, refusal: u8) -> usize {
     let a = digits(out, at, i);

@@ -1,5 +1,6 @@
 // Makes the calls that standard input names on the proved functions, and prints a line for each. One tracker
 // and one pending record live through the run.
+mod areas;
 mod args;
 mod calibration;
 mod geometry;

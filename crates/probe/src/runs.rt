@@ -1,4 +1,5 @@
 // A run: what lives through it, one call of it, and the calls in their order.
+use crate::areas;
 use crate::args;
 use crate::args::NUMBERS;
 use crate::calibration;
@@ -161,6 +162,23 @@ fn on_tracker(out: &mut [u8], i: u64, kind: u64, v: [u64; NUMBERS], to: Cursor, 
     with_tracker(r, to, n)
 }
 
+fn load(s: &[u8], out: &mut [u8], i: u64, v: [u64; NUMBERS], c: Cursor, r: Run) -> Run {
+    let a = areas::area_at(s, c, args::low16(v[0]) as usize);
+    let d = a.decoded;
+    let to = a.to;
+    let t = r.tracker;
+    match to {
+        Cursor::At(next) => {
+            let n = tracker::load(out, r.at, i, d, t);
+            with_tracker(r, Cursor::At(next), n)
+        }
+        Cursor::Stop(why, place) => {
+            let at = r.at;
+            read_on(r, Cursor::Stop(why, place), at)
+        }
+    }
+}
+
 fn scpi_put(out: &mut [u8], i: u64, v: [u64; NUMBERS], to: Cursor, r: Run) -> Run {
     let p = r.pending;
     let n = calibration::scpi_put(out, r.at, i, v, p);
@@ -187,6 +205,7 @@ fn made(s: &[u8], out: &mut [u8], i: u64, kind: u64, v: [u64; NUMBERS], c: Curso
         20 => scpi_put(out, i, v, c, r),
         21 => scpi_take(out, i, c, r),
         30..=37 => on_tracker(out, i, kind, v, c, r),
+        38 => load(s, out, i, v, c, r),
         _ => on_line(out, i, kind, v, c, r),
     }
 }

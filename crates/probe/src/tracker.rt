@@ -9,6 +9,7 @@ use gesture::Given;
 use gesture::Line;
 use gesture::Log;
 use gesture::Tracker;
+use image::DecodeAnswer;
 use panel::Axis;
 use panel::Event;
 use panel::Point;
@@ -109,7 +110,9 @@ fn log(out: &mut [u8], at: usize, l: Log) -> usize {
 
 // The tracker's image, which ends the line.
 fn image(out: &mut [u8], at: usize, t: Tracker) -> usize {
-    lines::end(out, at)
+    let b = image::image_of(t);
+    let a = lines::all_hex(out, at, &b);
+    lines::end(out, a)
 }
 
 fn behind(out: &mut [u8], at: usize, l: Log, t: Tracker) -> usize {
@@ -188,4 +191,12 @@ pub fn grab_ms(out: &mut [u8], at: usize, i: u64, t: Tracker) -> Tracked {
     let b = lines::number(out, a, ms as u64);
     let c = behind(out, b, l, n);
     Tracked { at: c, tracker: n }
+}
+
+// Bytes taken as the tracker's image.
+pub fn load(out: &mut [u8], at: usize, i: u64, d: DecodeAnswer, t: Tracker) -> Tracked {
+    match d {
+        DecodeAnswer::Answered(n) => quiet(out, at, i, 0, n),
+        DecodeAnswer::Refused(why) => quiet(out, at, i, panel::number(why), t),
+    }
 }

@@ -1,3 +1,4 @@
+-- `probe::args::float` is safe and ends. Assumes nothing.
 use native.Mathlib.Omega.{arith}
 use Rattle.probe.proofs.Floats.{no-nan}
 use borrow.Author.Needs.{needs}
