@@ -1,0 +1,5 @@
+mod Digits
+mod Writing
+mod Gestured
+mod Lined
+mod Runs
