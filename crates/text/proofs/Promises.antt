@@ -58,6 +58,10 @@ module _ (bytes room : List ℕ) where
   pub fits : (k : ℕ) → Wrote k ≡ playedOf bytes room → (k ≤ length (leftOf bytes room)) × (k ≡ length (take k (leftOf bytes room)))
   fits k e = let h = within k e in (h, sym (length-take-le k (leftOf bytes room) h))
 
+-- the same of an answer and the room left, as a caller has them
+pub lent : (bytes room : List ℕ) (k : ℕ) (r : Played) (left : List ℕ) → r ≡ Wrote k → (r ≡ playedOf bytes room) × (left ≡ leftOf bytes room) → (k ≤ length left) × (k ≡ length (take k left))
+lent bytes room k r left e p = rw (p .1) (fits bytes room k (sym e ∙ p .0))
+
 -- The lines of the calls, and one last line.
 pub one-last-line : (bytes : List ℕ) → textOf bytes ≡ linesFrom 1 (answersTo freshTracker (traceIn bytes .calls)) ++ lastLine (length (traceIn bytes .calls)) (traceIn bytes .ending)
 unfolding textOf printed
