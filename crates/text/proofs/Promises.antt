@@ -1,0 +1,116 @@
+-- The text in document 01's numbers: what `play` tells for every trace and every room, that it alters nothing where it
+-- refuses and no other byte where it writes, which reports are refused and with what number, and that a contract leaves
+-- no second answer. Assumes nothing.
+use Prim.Native.Nat.{ℕ, _+_, _≤_}
+use mathlib.Core.Bool.{true, false}
+use mathlib.Core.List.{List, [], _∷_, _++_, map}
+use mathlib.Core.Path.{_≡_, refl, sym, ap, _∙_}
+use native.Mathlib.Omega.{arith}
+use lib.ListN.{length, take, drop, length-append}
+use lib.Seq.{length-take-le}
+use Rattle.fingers.proofs.Kept.{if-all}
+use Rattle.gesture.proofs.Keeps.{fresh-kept, event-kept, tick-kept, capture-kept, capture-direct-kept, raw-next-kept, set-grab-kept}
+use Rattle.gesture.proofs.Promises.{event-tells, tick-tells, capture-tells, capture-direct-tells, raw-next-tells, set-grab-tells}
+use Rattle.gesture.specs.Answers.{pointsInUse}
+use Rattle.gesture.specs.Calls.{Call, report, tick, capture, captureDirect, rawNext, setGrabMs, answerOf}
+use Rattle.gesture.specs.States.{stateRule}
+use Rattle.gesture.specs.Trackers.{freshTracker}
+use Rattle.gesture.specs.declared.answers.Answer.{Answer}
+use Rattle.gesture.specs.declared.record.Tracker.{Tracker}
+use Rattle.panel.proofs.Follow.{if-of, if-true, if-two}
+use Rattle.panel.proofs.Promises.{one-answer}
+use Rattle.panel.specs.Points.{allOnPanel}
+use Rattle.panel.specs.Refusals.{Told}
+use Rattle.panel.specs.Tests.{if_then_else_, _≤?_}
+use Rattle.panel.specs.declared.refusals.Refusal.the-variants.{Room}
+use Rattle.text.specs.Played.{roomFor, playedOf, leftOf, toldPlayed}
+use Rattle.text.specs.Texts.{answersTo, linesFrom, lastLine, printed, textOf}
+use Rattle.text.specs.declared.playing.Played.{Played}
+use Rattle.text.specs.declared.playing.Played.the-variants.{Wrote, Refused}
+use Rattle.trace.specs.Traces.{traceIn}
+
+abbrev tells : {A : Type 0} → ℕ → A → Told A
+tells n a = record { number = n; value = a }
+
+-- ROOM, 14, exactly where less room is lent than the trace may take. Where it is told nothing is altered; else the text
+-- stands at the start, and behind it what was there.
+module _ (bytes room : List ℕ) where
+  pub play-tells : toldPlayed (playedOf bytes room) ≡ if_then_else_ (roomFor bytes ≤? length room) (tells 0 (length (textOf bytes))) (tells 14 0)
+  unfolding playedOf
+  play-tells = if-of toldPlayed _ _ _
+
+  pub no-room : roomFor bytes ≤? length room ≡ false → (toldPlayed (playedOf bytes room) ≡ tells 14 0) × (leftOf bytes room ≡ room)
+  unfolding playedOf leftOf if_then_else_
+  no-room h = (simp h, simp h)
+
+  pub no-other-byte : roomFor bytes ≤? length room ≡ true → leftOf bytes room ≡ textOf bytes ++ drop (length (textOf bytes)) room
+  unfolding leftOf
+  no-other-byte h = if-true _ _ _ h
+
+  within : (k : ℕ) → Wrote k ≡ playedOf bytes room → k ≤ length (leftOf bytes room)
+  unfolding playedOf leftOf
+  within k =
+      if-two (λ (p : Played) (l : List ℕ). Wrote k ≡ p → k ≤ length l) (roomFor bytes ≤? length room) (Wrote (length (textOf bytes))) (Refused Room) (textOf bytes ++ drop (length (textOf bytes)) room) room
+      (λ h e. let z : k ≡ length (textOf bytes) = cc in omega (arith, length-append (textOf bytes) (drop (length (textOf bytes)) room)))
+      (λ h e. let z : _≡_ {A = ℕ} 0 1 = cc in absurd (omega arith))
+
+  -- as many bytes as are said to be written can be lent
+  pub fits : (k : ℕ) → Wrote k ≡ playedOf bytes room → (k ≤ length (leftOf bytes room)) × (k ≡ length (take k (leftOf bytes room)))
+  fits k e = let h = within k e in (h, sym (length-take-le k (leftOf bytes room) h))
+
+-- the same of an answer and the room left, as a caller has them
+pub lent : (bytes room : List ℕ) (k : ℕ) (r : Played) (left : List ℕ) → r ≡ Wrote k → (r ≡ playedOf bytes room) × (left ≡ leftOf bytes room) → (k ≤ length left) × (k ≡ length (take k left))
+lent bytes room k r left e p = rw (p .1) (fits bytes room k (sym e ∙ p .0))
+
+-- The lines of the calls, and one last line.
+pub one-last-line : (bytes : List ℕ) → textOf bytes ≡ linesFrom 1 (answersTo freshTracker (traceIn bytes .calls)) ++ lastLine (length (traceIn bytes .calls)) (traceIn bytes .ending)
+unfolding textOf printed
+one-last-line bytes = refl
+
+-- "A refused report prints `i refused 2`": a report with a point in use off the panel is refused with 2, and nothing else
+-- of a trace ever is, as no run from a fresh tracker breaks the state rule.
+abbrev pub numberIn : Call → ℕ
+numberIn (report now ev) = if_then_else_ (allOnPanel (pointsInUse ev)) 0 2
+numberIn (tick now) = 0
+numberIn capture = 0
+numberIn captureDirect = 0
+numberIn (rawNext on) = 0
+numberIn (setGrabMs ms) = 0
+
+abbrev refusals : List Answer → List ℕ
+refusals told = map (λ a. a .refusal) told
+
+number-told : (t : Tracker) (c : Call) → stateRule t ≡ true → answerOf t c .refusal ≡ numberIn c
+number-told t (report now ev) h =
+    ap (λ (a : Answer). a .refusal) (event-tells t ev now ∙ if-true _ _ _ h) ∙ if-of (λ (a : Answer). a .refusal) _ _ _
+number-told t (tick now) h = ap (λ (a : Answer). a .refusal) (tick-tells t now ∙ if-true _ _ _ h)
+number-told t capture h = ap (λ (a : Answer). a .refusal) (capture-tells t ∙ if-true _ _ _ h) ∙ if-all (λ (a : Answer). a .refusal ≡ 0) _ refl refl
+number-told t captureDirect h = ap (λ (a : Answer). a .refusal) (capture-direct-tells t ∙ if-true _ _ _ h)
+number-told t (rawNext on) h = ap (λ (a : Answer). a .refusal) (raw-next-tells t on ∙ if-true _ _ _ h)
+number-told t (setGrabMs ms) h = ap (λ (a : Answer). a .refusal) (set-grab-tells t ms ∙ if-true _ _ _ h)
+
+rule-kept : (t : Tracker) (c : Call) → stateRule t ≡ true → stateRule (answerOf t c .tracker) ≡ true
+rule-kept t (report now ev) h = event-kept t ev now h
+rule-kept t (tick now) h = tick-kept t now h
+rule-kept t capture h = capture-kept t h
+rule-kept t captureDirect h = capture-direct-kept t h
+rule-kept t (rawNext on) h = raw-next-kept t on h
+rule-kept t (setGrabMs ms) h = set-grab-kept t ms h
+
+refusals-from : (t : Tracker) (cs : List Call) → stateRule t ≡ true → refusals (answersTo t cs) ≡ map numberIn cs
+unfolding answersTo
+refusals-from t [] h = refl
+refusals-from t (c ∷ cs) h =
+    ap (λ (n : ℕ). n ∷ refusals (answersTo (answerOf t c .tracker) cs)) (number-told t c h)
+    ∙ ap (λ (ns : List ℕ). numberIn c ∷ ns) (refusals-from (answerOf t c .tracker) cs (rule-kept t c h))
+
+pub only-panel : (cs : List Call) → map (λ a. a .refusal) (answersTo freshTracker cs) ≡ map numberIn cs
+only-panel cs = refusals-from freshTracker cs fresh-kept
+
+-- The contract determines the answer, and the room lent.
+module _ (bytes room : List ℕ) where
+  pub played-unique : {r s : Played} → r ≡ playedOf bytes room → s ≡ playedOf bytes room → r ≡ s
+  played-unique = one-answer
+
+  pub left-unique : {r s : List ℕ} → r ≡ leftOf bytes room → s ≡ leftOf bytes room → r ≡ s
+  left-unique = one-answer

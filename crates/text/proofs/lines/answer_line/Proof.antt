@@ -1,0 +1,34 @@
+-- `text::lines::answer_line` meets its contract. Assumes nothing.
+use Rattle.text.proofs.Lined.{answer-given, answer-refused}
+use borrow.Author.Needs.{needs}
+use Rattle.text.proofs.lines.answer_line.Statement.{statement}
+use Rattle.text.proofs.lines.answer_line.Tie as tie
+
+given-line-requires : tie.Need-given-line-requires
+given-line-requires c κs = search needs
+
+same-length : tie.Need-same-length
+same-length c = search needs
+
+returns : tie.Need-returns
+returns c = answer-given (c .before .before .before .before .before .before .args .i) (c .before .before .before .before .before .before .args .refusal) (c .before .before .before .before .before .before .args .given) (c .before .before .before .before .if1 .taken) (c .before .before .given-line .ensures)
+
+refused-line-requires : tie.Need-refused-line-requires
+refused-line-requires c κs = search needs
+
+same-length-2 : tie.Need-same-length-2
+same-length-2 c = search needs
+
+returns-2 : tie.Need-returns-2
+returns-2 c = answer-refused (c .before .before .before .before .before .before .args .i) (c .before .before .before .before .before .before .args .refusal) (c .before .before .before .before .before .before .args .given) (c .before .before .before .before .if1 .left) (c .before .before .refused-line .ensures)
+
+pub answer-line-spec : {M : Type 1} → statement M
+answer-line-spec =
+    tie.close
+    (tie.spec
+    given-line-requires
+    same-length
+    returns
+    refused-line-requires
+    same-length-2
+    returns-2)
