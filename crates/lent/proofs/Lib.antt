@@ -1,0 +1,2 @@
+-- `Records` serves the walks of this crate's own proofs.
+mod Records
