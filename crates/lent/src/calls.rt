@@ -2,7 +2,7 @@
 // whole and passed by value, and the new one is stored whole.
 ghost use mathlib.Core.Path.{_≡_};
 ghost use Rattle.gesture.specs.Answers.{eventOf, tickOf, captureOf, captureDirectOf, rawNextOf, setGrabOf, grabOf};
-ghost use Rattle.lent.specs.Lent.{toldBy, grabToldBy};
+ghost use Rattle.lent.specs.Lent.{TellsAndLeaves, grabToldBy};
 use crate::told;
 use crate::told::GrabTold;
 use crate::told::Told;
@@ -11,7 +11,7 @@ use panel::Event;
 
 // A report of the controller.
 pub fn event(t: &mut Tracker, ev: Event, time: u64) -> Told
-    ensures { λ r. ⌜ (r ≡ toldBy (eventOf (now (t .entry)) ev time)) × (now (t .exit) ≡ eventOf (now (t .entry)) ev time .tracker) ⌝ }
+    ensures { λ r. ⌜ TellsAndLeaves (eventOf (now (t .entry)) ev time) r (now (t .exit)) ⌝ }
 {
     let a = gesture::event(*t, ev, time);
     *t = a.tracker;
@@ -20,7 +20,7 @@ pub fn event(t: &mut Tracker, ev: Event, time: u64) -> Told
 
 // To be called periodically, between the reports.
 pub fn tick(t: &mut Tracker, time: u64) -> Told
-    ensures { λ r. ⌜ (r ≡ toldBy (tickOf (now (t .entry)) time)) × (now (t .exit) ≡ tickOf (now (t .entry)) time .tracker) ⌝ }
+    ensures { λ r. ⌜ TellsAndLeaves (tickOf (now (t .entry)) time) r (now (t .exit)) ⌝ }
 {
     let a = gesture::tick(*t, time);
     *t = a.tracker;
@@ -29,7 +29,7 @@ pub fn tick(t: &mut Tracker, time: u64) -> Told
 
 // The app took the current touch, its Down or its Drag: on release it is no swipe and no tap.
 pub fn capture(t: &mut Tracker) -> Told
-    ensures { λ r. ⌜ (r ≡ toldBy (captureOf (now (t .entry)))) × (now (t .exit) ≡ captureOf (now (t .entry)) .tracker) ⌝ }
+    ensures { λ r. ⌜ TellsAndLeaves (captureOf (now (t .entry))) r (now (t .exit)) ⌝ }
 {
     let a = gesture::capture(*t);
     *t = a.tracker;
@@ -38,7 +38,7 @@ pub fn capture(t: &mut Tracker) -> Told
 
 // As capture, and this touch drags at once even with hold-to-grab on: a slider, not the scope.
 pub fn capture_direct(t: &mut Tracker) -> Told
-    ensures { λ r. ⌜ (r ≡ toldBy (captureDirectOf (now (t .entry)))) × (now (t .exit) ≡ captureDirectOf (now (t .entry)) .tracker) ⌝ }
+    ensures { λ r. ⌜ TellsAndLeaves (captureDirectOf (now (t .entry))) r (now (t .exit)) ⌝ }
 {
     let a = gesture::capture_direct(*t);
     *t = a.tracker;
@@ -47,7 +47,7 @@ pub fn capture_direct(t: &mut Tracker) -> Told
 
 // Ask for raw moves on the touch that the app is about to capture.
 pub fn raw_next(t: &mut Tracker, on: bool) -> Told
-    ensures { λ r. ⌜ (r ≡ toldBy (rawNextOf (now (t .entry)) on)) × (now (t .exit) ≡ rawNextOf (now (t .entry)) on .tracker) ⌝ }
+    ensures { λ r. ⌜ TellsAndLeaves (rawNextOf (now (t .entry)) on) r (now (t .exit)) ⌝ }
 {
     let a = gesture::raw_next(*t, on);
     *t = a.tracker;
@@ -55,7 +55,7 @@ pub fn raw_next(t: &mut Tracker, on: bool) -> Told
 }
 
 pub fn set_grab_ms(t: &mut Tracker, ms: u16) -> Told
-    ensures { λ r. ⌜ (r ≡ toldBy (setGrabOf (now (t .entry)) ms)) × (now (t .exit) ≡ setGrabOf (now (t .entry)) ms .tracker) ⌝ }
+    ensures { λ r. ⌜ TellsAndLeaves (setGrabOf (now (t .entry)) ms) r (now (t .exit)) ⌝ }
 {
     let a = gesture::set_grab_ms(*t, ms);
     *t = a.tracker;
