@@ -101,9 +101,6 @@ module _ (P : Argument) where
         abbrev pub Stepping : Contract 𝓤
         Stepping = tripleOf 𝓤 H A (stepped .signature) (closing 𝓤 H A stepped stepping)
 
-        abbrev pub Lending : Contract 𝓤
-        Lending = tripleOf 𝓤 H A (lent .signature) (closing 𝓤 H A lent lending)
-
         made-of : (h : Tracker) (y : P .row .Denot) (a : Answer) → ent 𝓤 (ensured 𝓤 H A stepped stepping tt (h, (y, tt)) tt a) (fact 𝓤 (a ≡ answer h y))
         made-of h y a = exE 𝓤 _ (λ ws. snd∗ 𝓤 (sem 𝓤 H A (lasts stepped tt (h, (y, tt)) ws)) (fact 𝓤 (a ≡ answer h y)))
 
