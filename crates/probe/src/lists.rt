@@ -37,11 +37,7 @@ fn spot_at(s: &[u8], c: Cursor) -> Spot {
     let cx = x.to;
     let y = trace::next_number(s, cx, args::MOST_16);
     let to = y.to;
-    Spot {
-        x: x.v,
-        y: y.v,
-        to,
-    }
+    Spot { x: x.v, y: y.v, to }
 }
 
 fn tap(x: u64, y: u64) -> Tap {
