@@ -2,10 +2,10 @@
 ghost use mathlib.Core.Path.{_≡_};
 ghost use Rattle.calmap.specs.Maps.{applyOf};
 ghost use Rattle.host.specs.Hosts.{applied, calOf, appliedBy};
+use crate::calls;
 use calmap::ApplyAnswer;
 use calmap::Cal;
 use calmap::Q16;
-use crate::calls;
 
 // The point (x, y) through the six steps: 0 and two numbers in sixteenths of a pixel, or 3 and zeros.
 #[no_mangle]

@@ -46,7 +46,16 @@ pub(crate) fn number_of(why: Refusal) -> u32
     wide32(panel::number(why))
 }
 
-fn report_of(keys: u8, count: u8, p: Point, p0: Point, p1: Point, p2: Point, p3: Point, p4: Point) -> Event
+fn report_of(
+    keys: u8,
+    count: u8,
+    p: Point,
+    p0: Point,
+    p1: Point,
+    p2: Point,
+    p3: Point,
+    p4: Point,
+) -> Event
     ensures { λ r. ⌜ r ≡ reportOf keys count p p0 p1 p2 p3 p4 ⌝ }
 {
     let pts = [p0, p1, p2, p3, p4];
@@ -129,7 +138,11 @@ pub extern "C" fn touch_raw_next(image: &mut [u8], on: u8, out: &mut [u64; ANSWE
 
 // Hold-to-grab time in ms, cut to 5000; 0 for direct drags.
 #[no_mangle]
-pub extern "C" fn touch_set_grab_ms(image: &mut [u8], ms: u16, out: &mut [u64; ANSWER_NUMBERS]) -> u32
+pub extern "C" fn touch_set_grab_ms(
+    image: &mut [u8],
+    ms: u16,
+    out: &mut [u64; ANSWER_NUMBERS],
+) -> u32
     ensures { λ r. ⌜ host r (now (image .exit)) (now (out .exit)) ≡ hosted (now (image .entry)) (λ t. setGrabOf t ms) ⌝ }
 {
     let d = image::decode(image);

@@ -188,5 +188,17 @@ pub(crate) fn numbers_of(a: Answer) -> [u64; ANSWER_NUMBERS]
     let log = a.log;
     let g = given_numbers(given);
     let l = log_numbers(log);
-    [g.code, g.a, g.b, g.c, g.d, g.e, l.letter, l.argument, l.x, l.y, l.time]
+    [
+        g.code,
+        g.a,
+        g.b,
+        g.c,
+        g.d,
+        g.e,
+        l.letter,
+        l.argument,
+        l.x,
+        l.y,
+        l.time,
+    ]
 }

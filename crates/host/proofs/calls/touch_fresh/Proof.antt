@@ -20,7 +20,7 @@ same-length : tie.Need-same-length
 same-length c = search needs
 
 returns : tie.Need-returns
-returns c = 
+returns c =
     let s = c .before .before .before .store in
     let area = c .before .before .before .before .before .before .before .args .image .now in
     ap (λ (n : ℕ). stored n (s .last .1 .0)) (c .wide32 .ensures) ∙ s .ensures ∙ ap (λ (t : Tracker). storeOf t area) (c .before .before .before .before .before .fresh .ensures)

@@ -29,7 +29,7 @@ returns c = sym (ap logNumbers (c .enum-told .given .1))
 
 returns-2 : tie.Need-returns-2
 unfolding logNumbers
-returns-2 c = 
+returns-2 c =
     let l = c .before .before .before .before .before .before .log .given .0 .0 in
     (λ i. record { letter = c .before .before .before .wide8 .ensures i; argument = c .before .before .wide82 .ensures i; x = c .before .wide16 .ensures i; y = c .wide162 .ensures i; time = l .time }) ∙ sym (ap logNumbers (c .before .before .before .before .before .before .log .given .1))
 
