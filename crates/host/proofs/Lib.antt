@@ -1,4 +1,6 @@
--- The host's calls: how each is made of decoding, the tracker's call and storing; and what the calls promise.
+-- What the crates above may cite: `Promises`, what the calls promise. The other modules serve this crate's own proofs: how
+-- a call is made of decoding, the tracker's call and storing.
 mod Hosting
 mod Coding
 mod Applying
+pub mod Promises

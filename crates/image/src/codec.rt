@@ -59,12 +59,12 @@ pub fn decode(area: &[u8]) -> DecodeAnswer
 pub fn store(t: Tracker, area: &mut [u8]) -> u8
     ensures { λ r. ⌜ stored r (now (area .exit)) ≡ storeOf t (now (area .entry)) ⌝ }
 {
-    if area.len() == IMAGE_BYTES {
-        let image = writing::image_of(t);
-        bytes::copy(&image, area);
-        return 0;
+    if area.len() != IMAGE_BYTES {
+        return panel::number(Refusal::State);
     }
-    panel::number(Refusal::State)
+    let image = writing::image_of(t);
+    bytes::copy(&image, area);
+    0
 }
 
 // The same of a tracker that keeps the state rule, and of no other.
