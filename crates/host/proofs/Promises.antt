@@ -67,11 +67,17 @@ module _ (t : Tracker) (typed : Typed t) (kept : stateRule t ≡ true) where
   unfolding hosted onDecoded
   on-image call = ap (λ (d : DecodeAnswer). onDecoded (imageOf t) d call) (decode-of-image t typed kept)
 
-  -- an answered call leaves the image of the tracker that it leaves, and the next call finds that tracker
+  -- an answered call leaves the image of the tracker that it leaves
   module _ (call : Tracker → Answer) (answers : call t .refusal ≡ 0) where
     pub leaves-image : hosted (imageOf t) call ≡ host 0 (imageOf (call t .tracker)) (numbersOf (call t))
     unfolding finished
     leaves-image = on-image call ∙ if-true _ _ _ (eq-eqb _ _ answers)
+
+-- and the next call finds that tracker
+
+pub next-finds : (t : Tracker) (call next : Tracker → Answer) → Typed t → stateRule t ≡ true → call t .refusal ≡ 0 → Typed (call t .tracker) → stateRule (call t .tracker) ≡ true → hosted (hosted (imageOf t) call .area) next ≡ finished (imageOf (call t .tracker)) (next (call t .tracker))
+next-finds t call next typed kept answers typed-next kept-next =
+    ap (λ (h : Hosted). hosted (h .area) next) (leaves-image t typed kept call answers) ∙ on-image (call t .tracker) typed-next kept-next next
 
 -- A fresh area: all zero, of any area of the image's length.
 

@@ -1,7 +1,7 @@
 -- The byte image of a tracker: the table of docs/IMAGE.md.
 --
--- "one lent byte area that holds the tracker. One tracker has one image (layout fixed in docs/, absent parts zero)". "It is
--- lent by the caller ..; grab time .. and the raw wish .. live in it."
+-- "one lent byte area that holds the tracker. One tracker has one image (layout fixed in docs/, absent parts zero)". "grab
+-- time (0 at the start, set to at most 5000) and the raw wish (off) live in it."
 use Prim.Native.Nat.{ℕ, _+_}
 use mathlib.Core.List.{List, [], _∷_, _++_}
 use Rattle.panel.specs.declared.points.Point.{Point}
@@ -96,6 +96,12 @@ unfoldable pub pairRows : Pair → List Row
 pairRows r =
     pointRows (r .a) ++ pointRows (r .b) ++ row 1 (axisNumber (r .axis)) ∷ row 2 (r .span0) ∷ pointRows (r .c0) ++ row 1 (r .state) ∷ []
 
+unfoldable pub pairingRows : Pairing → List Row
+pairingRows pair = row 1 (pairNumber pair) ∷ pairRows (pairOf pair)
+
+unfoldable pub touchRows : Touch → List Row
+touchRows x = row 1 (touchNumber x) ∷ downRows (startOf x) (sinceOf x) ++ multiRows (multiOf x) ++ pairingRows (pairingOf x)
+
 unfoldable pub oneRows : One → List Row
 oneRows o =
     pointRows (o .last) ++ row 1 (bit (o .moved))
@@ -115,18 +121,12 @@ endRows end = row 1 (endNumber end) ∷ row 8 (endTime end) ∷ []
 unfoldable pub settingRows : Tracker → List Row
 settingRows t = row 1 (t .keys) ∷ row 1 (t .«keys_want») ∷ row 2 (t .«grab_ms») ∷ row 1 (bit (t .«raw_next»)) ∷ []
 
-unfoldable pub pairingRows : Pairing → List Row
-pairingRows pair = row 1 (pairNumber pair) ∷ pairRows (pairOf pair)
-
-unfoldable pub touchRows : Touch → List Row
-touchRows x = row 1 (touchNumber x) ∷ downRows (startOf x) (sinceOf x) ++ multiRows (multiOf x) ++ pairingRows (pairingOf x)
-
 unfoldable pub table : Tracker → List Row
 table t = touchRows (t .touch) ++ oneRows (t .one) ++ endRows (t .«multi_end») ++ settingRows t
 
 unfoldable pub imageOf : Tracker → List ℕ
 imageOf t = laid (table t)
 
--- how many bytes that are
+-- how many bytes that is
 abbrev pub imageBytes : ℕ
 imageBytes = 83

@@ -1,5 +1,6 @@
--- What a reader must believe about the byte image: Rows, Image, Codec and, for the promises, Typed. Reading is one way to find the tracker of an
--- area; that it finds the one whose image the area is stands in proofs/Promises.antt.
+-- What a reader must believe about the byte image: Rows, Image, Codec and, for the promises, Typed. The others say how the
+-- code goes about it: Reading finds the tracker of an area (that it is the one whose image the area is stands in
+-- proofs/Promises.antt), at Places; Puts writes a table; Words compares two images.
 pub mod Rows
 pub mod Image
 pub mod Places

@@ -1,14 +1,14 @@
 -- `image::writing::put_down` meets its contract. Assumes nothing.
 use Rattle.image.proofs.Written.{down-put}
-use borrow.Author.Needs.{needs}
+use lib.Dec.{lit≤}
 use Rattle.image.proofs.writing.put_down.Statement.{statement}
 use Rattle.image.proofs.writing.put_down.Tie as tie
 
 put-point-requires : tie.Need-put-point-requires
-put-point-requires c κs = search needs
+put-point-requires c κs = lit≤ tt
 
 put8-requires : tie.Need-put8-requires
-put8-requires c κs = search needs
+put8-requires c κs = lit≤ tt
 
 returns : tie.Need-returns
 returns c =

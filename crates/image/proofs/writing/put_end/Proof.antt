@@ -1,5 +1,6 @@
 -- `image::writing::put_end` meets its contract. Assumes nothing.
 use Rattle.image.proofs.Written.{end-put}
+use lib.Dec.{lit≤}
 use borrow.Author.Needs.{needs}
 use Rattle.image.proofs.writing.put_end.Statement.{statement}
 use Rattle.image.proofs.writing.put_end.Tie as tie
@@ -8,13 +9,13 @@ end-number-requires : tie.Need-end-number-requires
 end-number-requires c κs = search needs
 
 put1-requires : tie.Need-put1-requires
-put1-requires c κs = search needs
+put1-requires c κs = lit≤ tt
 
 end-time-requires : tie.Need-end-time-requires
 end-time-requires c κs = search needs
 
 put8-requires : tie.Need-put8-requires
-put8-requires c κs = search needs
+put8-requires c κs = lit≤ tt
 
 returns : tie.Need-returns
 returns c =

@@ -1,23 +1,23 @@
 -- `image::writing::put_multi` meets its contract. Assumes nothing.
 use Rattle.image.proofs.Written.{multi-put}
-use borrow.Author.Needs.{needs}
+use lib.Dec.{lit≤}
 use Rattle.image.proofs.writing.put_multi.Statement.{statement}
 use Rattle.image.proofs.writing.put_multi.Tie as tie
 
 put1-requires : tie.Need-put1-requires
-put1-requires c κs = search needs
+put1-requires c κs = lit≤ tt
 
 put-point-requires : tie.Need-put-point-requires
-put-point-requires c κs = search needs
+put-point-requires c κs = lit≤ tt
 
 put8-requires : tie.Need-put8-requires
-put8-requires c κs = search needs
+put8-requires c κs = lit≤ tt
 
 put-point-requires-2 : tie.Need-put-point-requires-2
-put-point-requires-2 c κs = search needs
+put-point-requires-2 c κs = lit≤ tt
 
 put8-requires-2 : tie.Need-put8-requires-2
-put8-requires-2 c κs = search needs
+put8-requires-2 c κs = lit≤ tt
 
 returns : tie.Need-returns
 returns c =

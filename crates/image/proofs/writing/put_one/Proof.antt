@@ -1,62 +1,63 @@
 -- `image::writing::put_one` meets its contract. Assumes nothing.
 use Rattle.image.proofs.Written.{one-put}
+use lib.Dec.{lit≤}
 use borrow.Author.Needs.{needs}
 use Rattle.image.proofs.writing.put_one.Statement.{statement}
 use Rattle.image.proofs.writing.put_one.Tie as tie
 
 put-point-requires : tie.Need-put-point-requires
-put-point-requires c κs = search needs
+put-point-requires c κs = lit≤ tt
 
 bit-requires : tie.Need-bit-requires
 bit-requires c κs = search needs
 
 put1-requires : tie.Need-put1-requires
-put1-requires c κs = search needs
+put1-requires c κs = lit≤ tt
 
 put2-requires : tie.Need-put2-requires
-put2-requires c κs = search needs
+put2-requires c κs = lit≤ tt
 
 bit-requires-2 : tie.Need-bit-requires-2
 bit-requires-2 c κs = search needs
 
 put1-requires-2 : tie.Need-put1-requires-2
-put1-requires-2 c κs = search needs
+put1-requires-2 c κs = lit≤ tt
 
 lock-number-requires : tie.Need-lock-number-requires
 lock-number-requires c κs = search needs
 
 put1-requires-3 : tie.Need-put1-requires-3
-put1-requires-3 c κs = search needs
+put1-requires-3 c κs = lit≤ tt
 
 bit-requires-3 : tie.Need-bit-requires-3
 bit-requires-3 c κs = search needs
 
 put1-requires-4 : tie.Need-put1-requires-4
-put1-requires-4 c κs = search needs
+put1-requires-4 c κs = lit≤ tt
 
 bit-requires-4 : tie.Need-bit-requires-4
 bit-requires-4 c κs = search needs
 
 put1-requires-5 : tie.Need-put1-requires-5
-put1-requires-5 c κs = search needs
+put1-requires-5 c κs = lit≤ tt
 
 bit-requires-5 : tie.Need-bit-requires-5
 bit-requires-5 c κs = search needs
 
 put1-requires-6 : tie.Need-put1-requires-6
-put1-requires-6 c κs = search needs
+put1-requires-6 c κs = lit≤ tt
 
 bit-requires-6 : tie.Need-bit-requires-6
 bit-requires-6 c κs = search needs
 
 put1-requires-7 : tie.Need-put1-requires-7
-put1-requires-7 c κs = search needs
+put1-requires-7 c κs = lit≤ tt
 
 bit-requires-7 : tie.Need-bit-requires-7
 bit-requires-7 c κs = search needs
 
 put1-requires-8 : tie.Need-put1-requires-8
-put1-requires-8 c κs = search needs
+put1-requires-8 c κs = lit≤ tt
 
 returns : tie.Need-returns
 returns c =

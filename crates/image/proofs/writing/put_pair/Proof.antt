@@ -1,5 +1,6 @@
 -- `image::writing::put_pair` meets its contract. Assumes nothing.
 use Rattle.image.proofs.Written.{pair-put}
+use lib.Dec.{lit≤}
 use borrow.Author.Needs.{needs}
 use Rattle.image.proofs.writing.put_pair.Statement.{statement}
 use Rattle.image.proofs.writing.put_pair.Tie as tie
@@ -8,22 +9,22 @@ axis-number-requires : tie.Need-axis-number-requires
 axis-number-requires c κs = search needs
 
 put-point-requires : tie.Need-put-point-requires
-put-point-requires c κs = search needs
+put-point-requires c κs = lit≤ tt
 
 put-point-requires-2 : tie.Need-put-point-requires-2
-put-point-requires-2 c κs = search needs
+put-point-requires-2 c κs = lit≤ tt
 
 put1-requires : tie.Need-put1-requires
-put1-requires c κs = search needs
+put1-requires c κs = lit≤ tt
 
 put2-requires : tie.Need-put2-requires
-put2-requires c κs = search needs
+put2-requires c κs = lit≤ tt
 
 put-point-requires-3 : tie.Need-put-point-requires-3
-put-point-requires-3 c κs = search needs
+put-point-requires-3 c κs = lit≤ tt
 
 put1-requires-2 : tie.Need-put1-requires-2
-put1-requires-2 c κs = search needs
+put1-requires-2 c κs = lit≤ tt
 
 returns : tie.Need-returns
 returns c =

@@ -1,5 +1,6 @@
 -- `image::writing::put_pairing` meets its contract. Assumes nothing.
 use Rattle.image.proofs.Absent.{unpaired-put, paired-put}
+use lib.Dec.{lit≤}
 use borrow.Author.Needs.{needs}
 use Rattle.image.proofs.writing.put_pairing.Statement.{statement}
 use Rattle.image.proofs.writing.put_pairing.Tie as tie
@@ -11,7 +12,7 @@ enum-known-pair : tie.Need-enum-known-pair
 enum-known-pair c = search needs
 
 put1-requires : tie.Need-put1-requires
-put1-requires c κs = search needs
+put1-requires c κs = lit≤ tt
 
 put-pair-requires : tie.Need-put-pair-requires
 put-pair-requires c κs = search needs

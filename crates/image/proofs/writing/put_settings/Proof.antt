@@ -1,23 +1,24 @@
 -- `image::writing::put_settings` meets its contract. Assumes nothing.
 use Rattle.image.proofs.Written.{settings-put}
+use lib.Dec.{lit≤}
 use borrow.Author.Needs.{needs}
 use Rattle.image.proofs.writing.put_settings.Statement.{statement}
 use Rattle.image.proofs.writing.put_settings.Tie as tie
 
 put1-requires : tie.Need-put1-requires
-put1-requires c κs = search needs
+put1-requires c κs = lit≤ tt
 
 put1-requires-2 : tie.Need-put1-requires-2
-put1-requires-2 c κs = search needs
+put1-requires-2 c κs = lit≤ tt
 
 put2-requires : tie.Need-put2-requires
-put2-requires c κs = search needs
+put2-requires c κs = lit≤ tt
 
 bit-requires : tie.Need-bit-requires
 bit-requires c κs = search needs
 
 put1-requires-3 : tie.Need-put1-requires-3
-put1-requires-3 c κs = search needs
+put1-requires-3 c κs = lit≤ tt
 
 returns : tie.Need-returns
 returns c =

@@ -1,5 +1,6 @@
 -- `image::writing::put_touch` meets its contract. Assumes nothing.
 use Rattle.image.proofs.Absent.{idle-put, down-put, no-pair-yet, multi-put, residual-put}
+use lib.Dec.{lit≤}
 use borrow.Author.Needs.{needs}
 use Rattle.image.proofs.writing.put_touch.Statement.{statement}
 use Rattle.image.proofs.writing.put_touch.Tie as tie
@@ -11,7 +12,7 @@ enum-known-touch : tie.Need-enum-known-touch
 enum-known-touch c = search needs
 
 put1-requires : tie.Need-put1-requires
-put1-requires c κs = search needs
+put1-requires c κs = lit≤ tt
 
 put-down-requires : tie.Need-put-down-requires
 put-down-requires c κs = search needs
@@ -20,7 +21,7 @@ enum-known-touch-2 : tie.Need-enum-known-touch-2
 enum-known-touch-2 c = search needs
 
 put1-requires-2 : tie.Need-put1-requires-2
-put1-requires-2 c κs = search needs
+put1-requires-2 c κs = lit≤ tt
 
 put-multi-requires : tie.Need-put-multi-requires
 put-multi-requires c κs = search needs
@@ -32,7 +33,7 @@ enum-told-2 : tie.Need-enum-told-2
 enum-told-2 c = search needs
 
 put1-requires-3 : tie.Need-put1-requires-3
-put1-requires-3 c κs = search needs
+put1-requires-3 c κs = lit≤ tt
 
 returns : tie.Need-returns
 returns c = idle-put _ _ (c .before .before .pre) (c .enum-told .given .1)
