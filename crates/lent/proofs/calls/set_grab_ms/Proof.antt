@@ -1,0 +1,25 @@
+-- `lent::calls::set_grab_ms` meets its contract. Assumes nothing.
+use mir.Syntax.{w16}
+use contract.Running.{givenOf, tables, tablesOf}
+use denote.Triple.Spec.{tripleOf}
+use denote.Triple.Table.{entered, cited}
+use Rattle.gesture.specs.Answers.{setGrabOf}
+use Rattle.gesture.proofs.set_grab_ms.Symbol as step
+use Rattle.gesture.proofs.set_grab_ms.Met as step-thm
+use Rattle.lent.proofs.Records.{Telling}
+use Rattle.lent.proofs.Arguments.{number}
+use Rattle.lent.proofs.OneArgument.{Stepping, meets}
+use Rattle.lent.proofs.told.told_by.Symbol as told
+use Rattle.lent.proofs.told.told_by.Met as told-thm
+use Rattle.lent.proofs.calls.set_grab_ms as f
+use Rattle.lent.proofs.calls.set_grab_ms.Key as key
+use Rattle.lent.proofs.calls.set_grab_ms.Statement.{statement}
+use Rattle.lent.proofs.calls.set_grab_ms.Code as code
+
+pub set-grab-ms-spec : {M : Type 1} → statement M
+unfolding code.routine tablesOf
+set-grab-ms-spec 𝓤 H 𝓜 𝓖 𝓡 =
+    entered 𝓤 H (tripleOf 𝓤 H (𝓖 .A) f.signature (f.spec 𝓤 H (𝓖 .A) (𝓜 .mem) (𝓡 .run))) (tables 𝓤 H 𝓜 𝓡 code.env .C) (tables 𝓤 H 𝓜 𝓡 code.env .Λ) key.name code.function (code.unfolded 𝓤 H 𝓜 𝓡)
+    (meets (number w16) setGrabOf 𝓤 H (𝓖 .A) (givenOf 𝓤 H 𝓜 𝓖) (tablesOf 𝓤 H 𝓜 (tables 𝓤 H 𝓜 𝓡 code.env)) step.name
+    (cited 𝓤 H (Stepping (number w16) setGrabOf 𝓤 H (𝓖 .A)) 𝓜 𝓡 code.env step.name step.routine code.calls-gesture·set-grab-ms (step-thm.met 𝓤 H 𝓜 𝓖 𝓡))
+    (cited 𝓤 H (Telling 𝓤 H (𝓖 .A)) 𝓜 𝓡 code.env told.name told.routine code.calls-lent·told·told-by (told-thm.met 𝓤 H 𝓜 𝓖 𝓡)))
