@@ -24,7 +24,7 @@ int main(void) {
     size_t k = rust_play(in, n, out, sizeof out);
     for (size_t done = 0; done < k && (got = write(1, out + done, k - done)) > 0;) done += (size_t)got;
 #else
-    printf("%" PRIu64 "\n", rust_measured(in, n));
+    printf("%" PRIu64, rust_measured(in, n));
 #endif
     return 0;
 }
