@@ -7,5 +7,6 @@ mod Written
 mod Absent
 pub mod Whole
 pub mod Codecs
+mod Wordwise
 mod Back
 pub mod Promises

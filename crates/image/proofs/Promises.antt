@@ -56,7 +56,7 @@ held : Tracker → DecodeAnswer → Tracker
 held other (Answered t) = t
 held other (Refused why) = other
 
-abbrev Found : List ℕ → Tracker → Type 0
+abbrev pub Found : List ℕ → Tracker → Type 0
 Found area t = (imageOf t ≡ area) × (stateRule t ≡ true)
 
 module _ (area : List ℕ) where
@@ -80,7 +80,7 @@ one-tracker r s typed-r typed-s e = sym (tracker-back r typed-r) ∙ ap trackerA
 -- "any other area, too short or long included, is STATE": refused exactly if it is the image of no tracker that keeps the
 -- state rule.
 
-abbrev NoImage : List ℕ → Type 0
+abbrev pub NoImage : List ℕ → Type 0
 NoImage area = (t : Tracker) → Typed t → stateRule t ≡ true → imageOf t ≡ area → ⊥
 
 pub refused-no-image : (area : List ℕ) → decodeOf area ≡ Refused State → NoImage area
@@ -105,7 +105,7 @@ decode-tells area = if-of toldDecode _ _ _
 
 -- A refused call leaves every byte.
 
-abbrev Unaltered : List ℕ → Stored → Type 0
+abbrev pub Unaltered : List ℕ → Stored → Type 0
 Unaltered area s = (s .number ≡ 0 → ⊥) → s ≡ stored (numberOf State) area
 
 pub store-refused-unaltered : (t : Tracker) (area : List ℕ) → Unaltered area (storeOf t area)

@@ -7,3 +7,4 @@ pub mod Reading
 pub mod Codec
 pub mod Typed
 pub mod Puts
+pub mod Words

@@ -3,9 +3,11 @@
 ghost use mathlib.Core.Path.{_≡_};
 ghost use lib.ListN.{length};
 ghost use Rattle.image.specs.Image.{imageBytes};
+ghost use Rattle.image.specs.Typed.{Bytes};
 ghost use Rattle.image.specs.Codec.{decodeOf, stored, storeOf, encodeOf};
 use crate::places::IMAGE_BYTES;
 use crate::reading;
+use crate::words;
 use crate::writing;
 use gesture::Tracker;
 use panel::Refusal;
@@ -15,10 +17,11 @@ pub enum DecodeAnswer {
     Refused(Refusal),
 }
 
-// A copy of an area that has the image's length.
+// A copy of an area that has the image's length. That its elements are bytes is said as well: who takes the copy does
+// not know it by itself.
 fn held(area: &[u8]) -> [u8; IMAGE_BYTES]
     requires { ⌜ length (now area) ≡ imageBytes ⌝ }
-    ensures { λ r. ⌜ r ≡ now (area .entry) ⌝ }
+    ensures { λ r. ⌜ (r ≡ now (area .entry)) × Bytes r ⌝ }
 {
     let mut image = [0u8; IMAGE_BYTES];
     bytes::copy(area, &mut image);
@@ -26,15 +29,16 @@ fn held(area: &[u8]) -> [u8; IMAGE_BYTES]
 }
 
 fn decode_held(image: [u8; IMAGE_BYTES]) -> DecodeAnswer
+    requires { ⌜ (length image ≡ imageBytes) × Bytes image ⌝ }
     ensures { λ r. ⌜ r ≡ decodeOf image ⌝ }
 {
     let t = reading::tracker_at(&image);
     let again = writing::image_of(t);
-    if check::same(&again, &image) {
-        if gesture::state_ok(t) {
-            return DecodeAnswer::Answered(t);
-        }
+    if words::images_differ(&again, &image) {
         return DecodeAnswer::Refused(Refusal::State);
+    }
+    if gesture::state_ok(t) {
+        return DecodeAnswer::Answered(t);
     }
     DecodeAnswer::Refused(Refusal::State)
 }
@@ -55,12 +59,12 @@ pub fn decode(area: &[u8]) -> DecodeAnswer
 pub fn store(t: Tracker, area: &mut [u8]) -> u8
     ensures { λ r. ⌜ stored r (now (area .exit)) ≡ storeOf t (now (area .entry)) ⌝ }
 {
-    if area.len() == IMAGE_BYTES {
-        let image = writing::image_of(t);
-        bytes::copy(&image, area);
-        return 0;
+    if area.len() != IMAGE_BYTES {
+        return panel::number(Refusal::State);
     }
-    panel::number(Refusal::State)
+    let image = writing::image_of(t);
+    bytes::copy(&image, area);
+    0
 }
 
 // The same of a tracker that keeps the state rule, and of no other.

@@ -4,6 +4,7 @@ mod codec;
 mod fields;
 mod places;
 mod reading;
+mod words;
 mod writing;
 
 pub use codec::DecodeAnswer;

@@ -2,7 +2,6 @@
 use Prim.Native.Nat.{ℕ, _≤_, _<_, _%_}
 use mathlib.Core.Bool.{Bool, true, false, not}
 use mathlib.Core.Path.{_≡_, sym, subst, _∙_}
-
 use lib.Dec.{T, ltb}
 use lib.Ieee.{Float, nan, inf, fin, eq, isNan, nanBits, binary32}
 use lib.Ieee.Bits.{nanBits-above}

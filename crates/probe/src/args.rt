@@ -6,8 +6,8 @@ use calmap::Q16;
 use panel::MAX_POINTS;
 use panel::Point;
 use panel::Refusal;
-use trace::Cursor;
 use touchcal::Coefs;
+use trace::Cursor;
 
 // The largest number of each width.
 pub const MOST_8: u64 = 255;

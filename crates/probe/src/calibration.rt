@@ -64,7 +64,12 @@ fn sixteenths(v: u64) -> Sixteenths {
 }
 
 pub fn dist10(out: &mut [u8], at: usize, i: u64, v: [u64; NUMBERS]) -> usize {
-    let r = calmap::dist10(sixteenths(v[0]), sixteenths(v[1]), sixteenths(v[2]), sixteenths(v[3]));
+    let r = calmap::dist10(
+        sixteenths(v[0]),
+        sixteenths(v[1]),
+        sixteenths(v[2]),
+        sixteenths(v[3]),
+    );
     match r {
         Dist10Answer::Answered(t) => lines::counted(out, at, i, t.0 as u64),
         Dist10Answer::Refused(why) => lines::refused(out, at, i, why),

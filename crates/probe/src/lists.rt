@@ -8,8 +8,11 @@ use calmap::Tap;
 use panel::Point;
 use trace::Cursor;
 
+// The taps that a call can use, and a place for those that it cannot: the other list may be the shorter one.
+const PLACES: usize = 65;
+
 pub struct Taps {
-    pub list: [Tap; MAX_TAPS],
+    pub list: [Tap; PLACES],
     pub n: usize,
     pub to: Cursor,
 }
@@ -37,11 +40,7 @@ fn spot_at(s: &[u8], c: Cursor) -> Spot {
     let cx = x.to;
     let y = trace::next_number(s, cx, args::MOST_16);
     let to = y.to;
-    Spot {
-        x: x.v,
-        y: y.v,
-        to,
-    }
+    Spot { x: x.v, y: y.v, to }
 }
 
 fn tap(x: u64, y: u64) -> Tap {
@@ -51,16 +50,23 @@ fn tap(x: u64, y: u64) -> Tap {
     }
 }
 
-fn no_taps() -> [Tap; MAX_TAPS] {
-    [Tap { x: 0, y: 0 }; MAX_TAPS]
+fn no_taps() -> [Tap; PLACES] {
+    [Tap { x: 0, y: 0 }; PLACES]
 }
 
 fn no_targets() -> [Point; MAX_TAPS] {
     [Point { x: 0, y: 0 }; MAX_TAPS]
 }
 
-// The place of a point. What a call cannot use goes over the last: it is refused by the count.
-fn slot(i: usize) -> usize
+// The place of a tap.
+fn tap_slot(i: usize) -> usize
+    ensures { λ r. ⌜ r < 65 ⌝ }
+{
+    if i < MAX_TAPS { i } else { MAX_TAPS }
+}
+
+// The place of a target. One too many goes over the last: the call is refused by the count.
+fn target_slot(i: usize) -> usize
     ensures { λ r. ⌜ r < 64 ⌝ }
 {
     if i < MAX_TAPS { i } else { MAX_TAPS - 1 }
@@ -76,7 +82,7 @@ pub fn taps_at(s: &[u8], c: Cursor) -> Taps {
         let p = spot_at(s, to);
         to = p.to;
         let q = tap(p.x, p.y);
-        let k = slot(i);
+        let k = tap_slot(i);
         list[k] = q;
         i += 1;
     }
@@ -93,7 +99,7 @@ pub fn targets_at(s: &[u8], c: Cursor) -> Targets {
         let p = spot_at(s, to);
         to = p.to;
         let q = args::point(p.x, p.y);
-        let k = slot(i);
+        let k = target_slot(i);
         list[k] = q;
         i += 1;
     }

@@ -3,8 +3,8 @@ use Prim.Native.Nat.{ℕ, zero, suc, _+_, _-_, _*_, _/_, _%_, _≤_, _<_, _^_}
 use mathlib.Core.Path.{_≡_, refl, sym, ap, _∙_}
 use mathlib.Core.Bool.{Bool, true, false}
 use mathlib.Core.List.{List, [], _∷_, _++_}
+use native.Mathlib.Numerals.{add-one}
 use native.Mathlib.Omega.{arith}
-use native.Mathlib.Nat.{div-lt-iff-lt-mul}
 use lib.ListN.{length, set, length-append}
 use lib.Seq.{sets}
 use lib.Dec.{ltb}
@@ -112,3 +112,41 @@ decimal-two v h = digits-two mostDigits v h
 pub decimal-small : (v : ℕ) → v < smallEnd → length (decimal v) ≤ smallDigits
 unfolding decimal
 decimal-small v h = digits-up 10_000 3 (digits-up 1_000 2 (digits-up 100 1 digits-two)) mostDigits v h
+
+-- The few digits that `number` writes straight away.
+
+module _ (l : List ℕ) (at v : ℕ) where
+  pub one-digit : v < ten → Written l at (decimal v) (at + 1) (set l at (v + digit0))
+  unfolding decimal
+  one-digit h = rw (digits-one 19 v h) (record { ends = omega arith; left = refl })
+
+  two-are : (k : ℕ) → ten ≤ v → v < 100 → digitsBy (suc (suc k)) v ≡ (v / ten + digit0) ∷ (v % ten + digit0) ∷ []
+  two-are k g h =
+      digits-step (suc k) v g ∙ ap (λ (x : List ℕ). x ++ ((v % ten + digit0) ∷ [])) (digits-one k (v / ten) (omega arith))
+
+  pub two-digits : ten ≤ v → v < 100 → Written l at (decimal v) (at + 2) (set (set l at (v / ten + digit0)) (at + 1) (v % ten + digit0))
+  unfolding decimal
+  two-digits g h =
+      rw (two-are 18 g h)
+      (record {
+        ends = omega arith;
+        left = ap (λ (n : ℕ). set (set l at (v / ten + digit0)) n (v % ten + digit0)) (add-one at);
+      })
+
+module _ (l : List ℕ) (at v : ℕ) where
+  three-are : 100 ≤ v → v < 1_000 → decimal v ≡ (v / ten / ten + digit0) ∷ (v / ten % ten + digit0) ∷ (v % ten + digit0) ∷ []
+  unfolding decimal
+  three-are g h =
+      digits-step 19 v (omega arith)
+      ∙ ap (λ (x : List ℕ). x ++ ((v % ten + digit0) ∷ [])) (two-are l at (v / ten) 17 (omega arith) (omega arith))
+
+  pub three-digits : 100 ≤ v → v < 1_000 → Written l at (decimal v) (at + 3) (set (set (set l at (v / ten / ten + digit0)) (at + 1) (v / ten % ten + digit0)) (at + 2) (v % ten + digit0))
+  three-digits g h =
+      let e : at + 2 ≡ suc (suc at) = omega arith in
+      rw (three-are g h)
+      (record {
+        ends = omega arith;
+        left =
+            ap (λ (n : ℕ). set (set (set l at (v / ten / ten + digit0)) n (v / ten % ten + digit0)) (at + 2) (v % ten + digit0)) (add-one at)
+            ∙ ap (λ (n : ℕ). set (set (set l at (v / ten / ten + digit0)) (suc at) (v / ten % ten + digit0)) n (v % ten + digit0)) e;
+      })

@@ -26,13 +26,28 @@ fn digits(out: &mut [u8], at: usize, v: u64, left: u64) -> usize
     a + 1
 }
 
-// A number.
+// A number. Most have three digits or fewer, and these are written straight away.
 pub(crate) fn number(out: &mut [u8], at: usize, v: u64) -> usize
     requires { ⌜ (v < smallEnd) × (at + smallDigits ≤ length (now out)) ⌝ }
     ensures { λ r. ⌜ Written (now (out .entry)) at (decimal v) r (now (out .exit)) ⌝ }
     ensures { λ r. ⌜ r ≤ at + smallDigits ⌝ }
     ensures { λ r. ⌜ (v < 100 → r ≤ at + 2) ⌝ }
 {
+    if v < 10 {
+        out[at] = (v + 48) as u8;
+        return at + 1;
+    }
+    if v < 100 {
+        out[at] = (v / 10 + 48) as u8;
+        out[at + 1] = (v % 10 + 48) as u8;
+        return at + 2;
+    }
+    if v < 1000 {
+        out[at] = (v / 10 / 10 + 48) as u8;
+        out[at + 1] = (v / 10 % 10 + 48) as u8;
+        out[at + 2] = (v % 10 + 48) as u8;
+        return at + 3;
+    }
     digits(out, at, v, 20)
 }
 

@@ -13,7 +13,7 @@ decode-held-requires : tie.Need-decode-held-requires
 decode-held-requires c κs = search needs
 
 returns : tie.Need-returns
-returns c = c .decode-held .ensures ∙ ap decodeOf (c .before .held .ensures)
+returns c = c .decode-held .ensures ∙ ap decodeOf (c .before .held .ensures .0)
 
 returns-2 : tie.Need-returns-2
 returns-2 c = sym (decode-length _ (c .if1 .left))

@@ -4,6 +4,12 @@ use borrow.Author.Needs.{needs}
 use Rattle.image.proofs.codec.store.Statement.{statement}
 use Rattle.image.proofs.codec.store.Tie as tie
 
+number-requires : tie.Need-number-requires
+number-requires c κs = search needs
+
+returns : tie.Need-returns
+returns c = store-refused _ _ _ (c .number .ensures) (c .before .if1 .taken)
+
 image-of-requires : tie.Need-image-of-requires
 image-of-requires c κs = search needs
 
@@ -16,23 +22,17 @@ copy-requires c κs = search needs
 same-length : tie.Need-same-length
 same-length c = search needs
 
-returns : tie.Need-returns
-returns c = store-done _ _ _ _ (c .before .before .before .before .before .before .if1 .taken) (c .before .before .before .before .before .image-of .ensures) (c .before .before .copy .ensures .1)
-
-number-requires : tie.Need-number-requires
-number-requires c κs = search needs
-
 returns-2 : tie.Need-returns-2
-returns-2 c = store-refused _ _ _ (c .number .ensures) (c .before .if1 .left)
+returns-2 c = store-done _ _ _ _ (c .before .before .before .before .before .before .if1 .left) (c .before .before .before .before .before .image-of .ensures) (c .before .before .copy .ensures .1)
 
 pub store-spec : {M : Type 1} → statement M
 store-spec =
     tie.close
     (tie.spec
+    number-requires
+    returns
     image-of-requires
     slice-aggregate-copy
     copy-requires
     same-length
-    returns
-    number-requires
     returns-2)

@@ -10,13 +10,13 @@ use Rattle.probe.proofs.lists.taps_at.Reads as reads
 use Rattle.probe.proofs.lists.taps_at.Lts as lts
 use Rattle.probe.proofs.args.low8.Reads as low8-reads
 use Rattle.probe.proofs.lists.no_taps.Reads as no-taps-reads
-use Rattle.probe.proofs.lists.slot.Reads as slot-reads
+use Rattle.probe.proofs.lists.tap_slot.Reads as tap-slot-reads
 use Rattle.probe.proofs.lists.spot_at.Reads as spot-at-reads
 use Rattle.probe.proofs.lists.tap.Reads as tap-reads
 use Rattle.trace.proofs.next_number.Reads as next-number-reads
 
 abbrev Inv-loop : tie.InvT-loop
-Inv-loop s n list₀ to₀ i₀ list to i = (n ≤ 255) × (length list ≡ 64)
+Inv-loop s n list₀ to₀ i₀ list to i = (n ≤ 255) × (length list ≡ 65)
 
 abbrev μ-loop : tie.MeasureT-loop
 μ-loop s n list₀ to₀ i₀ list to i = n - i
@@ -42,8 +42,8 @@ spot-at-requires c κs = search needs
 tap-requires : tie.Need-tap-requires Inv-loop μ-loop
 tap-requires c κs = search needs
 
-slot-requires : tie.Need-slot-requires Inv-loop μ-loop
-slot-requires c κs = search needs
+tap-slot-requires : tie.Need-tap-slot-requires Inv-loop μ-loop
+tap-slot-requires c κs = search needs
 
 mul-list : tie.Need-mul-list Inv-loop μ-loop
 mul-list c = search needs
@@ -76,7 +76,7 @@ taps-at-spec =
     loop-holds
     spot-at-requires
     tap-requires
-    slot-requires
+    tap-slot-requires
     mul-list
     array-set-from-list
     add-i

@@ -11,7 +11,7 @@ use Rattle.probe.proofs.lists.targets_at.Lts as lts
 use Rattle.probe.proofs.args.low8.Reads as low8-reads
 use Rattle.probe.proofs.args.point.Reads as point-reads
 use Rattle.probe.proofs.lists.no_targets.Reads as no-targets-reads
-use Rattle.probe.proofs.lists.slot.Reads as slot-reads
+use Rattle.probe.proofs.lists.target_slot.Reads as target-slot-reads
 use Rattle.probe.proofs.lists.spot_at.Reads as spot-at-reads
 use Rattle.trace.proofs.next_number.Reads as next-number-reads
 
@@ -42,8 +42,8 @@ spot-at-requires c κs = search needs
 point-requires : tie.Need-point-requires Inv-loop μ-loop
 point-requires c κs = search needs
 
-slot-requires : tie.Need-slot-requires Inv-loop μ-loop
-slot-requires c κs = search needs
+target-slot-requires : tie.Need-target-slot-requires Inv-loop μ-loop
+target-slot-requires c κs = search needs
 
 mul-list : tie.Need-mul-list Inv-loop μ-loop
 mul-list c = search needs
@@ -76,7 +76,7 @@ targets-at-spec =
     loop-holds
     spot-at-requires
     point-requires
-    slot-requires
+    target-slot-requires
     mul-list
     array-set-from-list
     add-i
