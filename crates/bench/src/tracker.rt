@@ -1,0 +1,100 @@
+// The rows of the tracker. The log line of a call is stored into a ring, as the published log does.
+ghost use Prim.Native.Nat.{_<_};
+use crate::fold;
+use crate::held;
+use crate::held::Calls;
+use gesture::Answer;
+use gesture::Line;
+use gesture::Log;
+use gesture::Tracker;
+use panel::Event;
+use panel::Point;
+
+// The lines that the ring holds.
+const LINES: usize = 160;
+
+fn in_ring(n: u32) -> usize
+    ensures { λ r. ⌜ r < 160 ⌝ }
+{
+    (n % 160) as usize
+}
+
+fn no_line() -> Line {
+    Line {
+        letter: 0,
+        argument: 0,
+        p: Point { x: 0, y: 0 },
+        time: 0,
+    }
+}
+
+fn with_line(sum: u64, l: Line) -> u64 {
+    let p = l.p;
+    let a = fold::with(sum, l.letter as u64);
+    let b = fold::with(a, l.argument as u64);
+    let c = fold::with(b, p.x as u64);
+    let d = fold::with(c, p.y as u64);
+    fold::with(d, l.time % 4294967296)
+}
+
+fn with_lines(sum: u64, ring: [Line; LINES]) -> u64 {
+    let mut r = sum;
+    let mut i = 0;
+    while i < LINES {
+        let l = ring[i];
+        r = with_line(r, l);
+        i += 1;
+    }
+    r
+}
+
+fn made(t: Tracker, is_tick: bool, ev: Event, time: u64) -> Answer {
+    if is_tick {
+        return gesture::tick(t, time);
+    }
+    gesture::event(t, ev, time)
+}
+
+// The call after call k: from the last one back to the first that is not made only once.
+fn after(k: usize, n: usize, first: usize) -> usize {
+    let next = std::num::wrapping_add_usize(k, 1);
+    if next < n { next } else { first }
+}
+
+fn in_places(n: u64) -> usize {
+    if n < 16 {
+        return n as usize;
+    }
+    0
+}
+
+// So many calls, each on the tracker that the last one left.
+pub fn on_values(c: Calls, calls: u64, once: u64) -> u64 {
+    let events = c.events;
+    let times = c.times;
+    let ticks = c.ticks;
+    let first = in_places(once);
+    let mut ring = [no_line(); LINES];
+    let mut lines = 0u32;
+    let mut t = gesture::fresh();
+    let mut sum = 0u64;
+    let mut k = 0;
+    let mut i = 0u64;
+    while i < calls {
+        i += 1;
+        let j = held::slot(k);
+        let ev = events[j];
+        let a = made(t, ticks[j], ev, times[j]);
+        k = after(k, c.n, first);
+        t = a.tracker;
+        let g = a.gesture;
+        let log = a.log;
+        sum = fold::with(sum, fold::given(g));
+        if let Log::Logged(l) = log {
+            let m = in_ring(lines);
+            lines = std::num::wrapping_add_u32(lines, 1);
+            ring[m] = l;
+        }
+    }
+    with_lines(sum, ring)
+}
