@@ -90,7 +90,7 @@ uint32_t touch_raw_next(uint8_t *image, size_t bytes, uint8_t on, uint64_t out[T
 
 /* Hold-to-grab time in ms, at most 5000 (a longer one is cut to it); 0 for direct drags. */
 uint32_t touch_set_grab_ms(uint8_t *image, size_t bytes, uint16_t ms, uint64_t out[TOUCH_OUT]);
-uint32_t touch_grab_ms(uint8_t *image, size_t bytes, uint64_t out[1]);
+uint32_t touch_grab_ms(const uint8_t *image, size_t bytes, uint64_t out[1]);
 
 /*
  * The calibration c0 .. c5, in steps of 1/65536, at the raw point (x, y): the point on the screen in
