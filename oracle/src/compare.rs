@@ -66,22 +66,28 @@ fn differs(p: &Programs, calls: &[Call]) -> bool {
     p.run("probe", &input) != Side::new().run(&input)
 }
 
-/// The calls without those that the difference does not need, and with smaller numbers.
-fn shrunk_calls(p: &Programs, mut calls: Vec<Call>) -> ! {
-    let mut chunk = calls.len();
+/// What is left when all is taken away that the difference does not need: half of it at a time, then less.
+fn needed<T: Clone>(mut items: Vec<T>, differs: &dyn Fn(&[T]) -> bool) -> Vec<T> {
+    let mut chunk = items.len();
     while chunk > 0 {
-        let mut k = calls.len();
+        let mut k = items.len();
         while k > 0 {
             let from = k.saturating_sub(chunk);
-            let mut fewer = calls.clone();
+            let mut fewer = items.clone();
             fewer.drain(from..k);
-            if differs(p, &fewer) {
-                calls = fewer;
+            if differs(&fewer) {
+                items = fewer;
             }
             k = from;
         }
         chunk /= 2;
     }
+    items
+}
+
+/// The calls that a difference needs, with numbers as small as it lets them be.
+fn shrunk_calls(p: &Programs, calls: Vec<Call>) -> ! {
+    let mut calls = needed(calls, &|c| differs(p, c));
     for i in 0..calls.len() {
         for j in 1..calls[i].len() {
             for v in [0, calls[i][j] / 2, calls[i][j].saturating_sub(1)] {
@@ -97,23 +103,12 @@ fn shrunk_calls(p: &Programs, mut calls: Vec<Call>) -> ! {
     told("probe", &input, &Side::new().run(&input), &p.run("probe", &input))
 }
 
-/// Bytes without those that the difference does not need.
-fn shrunk_bytes(name: &str, mut bytes: Vec<u8>, both: &dyn Fn(&[u8]) -> (Vec<u8>, Vec<u8>)) -> ! {
-    let mut chunk = bytes.len();
-    while chunk > 0 {
-        let mut k = bytes.len();
-        while k > 0 {
-            let from = k.saturating_sub(chunk);
-            let mut fewer = bytes.clone();
-            fewer.drain(from..k);
-            let (a, b) = both(&fewer);
-            if a != b {
-                bytes = fewer;
-            }
-            k = from;
-        }
-        chunk /= 2;
-    }
+/// The bytes that a difference needs.
+fn shrunk_bytes(name: &str, bytes: Vec<u8>, both: &dyn Fn(&[u8]) -> (Vec<u8>, Vec<u8>)) -> ! {
+    let bytes = needed(bytes, &|b| {
+        let (rust, here) = both(b);
+        rust != here
+    });
     let (a, b) = both(&bytes);
     told(name, &bytes, &a, &b)
 }
