@@ -85,9 +85,24 @@ fn needed<T: Clone>(mut items: Vec<T>, differs: &dyn Fn(&[T]) -> bool) -> Vec<T>
     items
 }
 
+/// The calls up to the first line that differs and, where that is enough, from the last fresh tracker on.
+fn narrowed(p: &Programs, mut calls: Vec<Call>) -> Vec<Call> {
+    let input = bytes_of(&calls);
+    let (rust, here) = (Side::new().run(&input), p.run("probe", &input));
+    let both = rust.split(|&b| b == b'\n').zip(here.split(|&b| b == b'\n'));
+    calls.truncate(both.take_while(|(a, b)| a == b).count() + 1);
+    let fresh = calls.iter().rposition(|c| c[0] == 30).unwrap_or(0);
+    for from in [calls.len() - 1, fresh] {
+        if differs(p, &calls[from..]) {
+            return calls[from..].to_vec();
+        }
+    }
+    calls
+}
+
 /// The calls that a difference needs, with numbers as small as it lets them be.
 fn shrunk_calls(p: &Programs, calls: Vec<Call>) -> ! {
-    let mut calls = needed(calls, &|c| differs(p, c));
+    let mut calls = needed(narrowed(p, calls), &|c| differs(p, c));
     for i in 0..calls.len() {
         for j in 1..calls[i].len() {
             for v in [0, calls[i][j] / 2, calls[i][j].saturating_sub(1)] {
@@ -159,11 +174,33 @@ fn batch(d: &mut Dice, left: &mut [u64], tracker: &mut u64) -> (Vec<Call>, Side)
     (calls, side)
 }
 
-/// A trace of so many calls of a hand.
-pub fn any_trace(d: &mut Dice, n: u64) -> Vec<u8> {
+/// So many calls of a hand.
+fn any_calls(d: &mut Dice, n: u64) -> Vec<Call> {
     let mut hand = Hand::new(d);
-    let calls: Vec<Call> = (0..n).map(|_| hand.call(d)).collect();
-    trace_of(&calls)
+    (0..n).map(|_| hand.call(d)).collect()
+}
+
+/// A difference in a trace of whole records, shrunk by records: up to the first that differs, then those it needs.
+fn shrunk_trace(p: &Programs, calls: &[Call]) -> ! {
+    let differs = |c: &[Call]| {
+        let trace = trace_of(c);
+        played(&trace) != p.run("play", &trace)
+    };
+    let (mut same, mut other) = (0, calls.len());
+    while other - same > 1 {
+        let middle = (same + other) / 2;
+        if differs(&calls[..middle]) { other = middle } else { same = middle }
+    }
+    let trace = trace_of(&needed(calls[..other].to_vec(), &differs));
+    told("play", &trace, &played(&trace), &p.run("play", &trace))
+}
+
+fn trace_held(p: &Programs, calls: &[Call], t: &mut Tally) {
+    let trace = trace_of(calls);
+    if p.run("play", &trace) != played(&trace) {
+        shrunk_trace(p, calls);
+    }
+    play_held(p, &trace, t);
 }
 
 fn play_held(p: &Programs, trace: &[u8], t: &mut Tally) {
@@ -201,9 +238,10 @@ pub fn compared(p: &Programs, n: u64, seed: u64) -> Tally {
     }
     for k in 0..n / 2_000 + 20 {
         let size = if k % 10 == 0 { 4_000 } else { 1 + d.under(400) };
-        let trace = any_trace(&mut d, size);
-        play_held(p, &trace[..trace.len().min(70_000)], &mut t);
-        let bad = damaged(&mut d, &trace[..trace.len().min(400)]);
+        let calls = any_calls(&mut d, size);
+        trace_held(p, &calls, &mut t);
+        let trace = trace_of(&calls[..calls.len().min(30)]);
+        let bad = damaged(&mut d, &trace);
         play_held(p, &bad, &mut t);
     }
     t
