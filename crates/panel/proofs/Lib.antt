@@ -3,5 +3,6 @@
 pub mod Follow
 pub mod Laws
 pub mod Promises
+pub mod Squares
 mod Magnitudes
 mod Loops

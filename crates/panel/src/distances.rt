@@ -2,6 +2,7 @@
 // tracker is held against, and the square of the straight line, by which fingers keep their names.
 ghost use mathlib.Core.Path.{_≡_};
 ghost use Prim.Native.Nat.{_*_, _≤_, max};
+ghost use lib.IntN.{pos, natAbs, _-ℤ_};
 ghost use Rattle.panel.specs.Distances.{difference, distance, distance2, distOf, dist2Of};
 use crate::points;
 use crate::points::Point;
@@ -27,10 +28,20 @@ pub(crate) fn larger(a: u32, b: u32) -> u32
     if a <= b { b } else { a }
 }
 
-fn square(a: u16) -> u64
-    ensures { λ r. ⌜ (r ≡ a * a) × (r ≤ 4294836225) ⌝ }
+// The way from one coordinate to another, below 0 where it leads back.
+fn offset(a: u16, b: u16) -> i32
+    ensures { λ r. ⌜ r ≡ pos b -ℤ pos a ⌝ }
 {
-    (a as u64) * (a as u64)
+    (b as i32) - (a as i32)
+}
+
+// The square of a number. It is formed at 64 bits, where it always fits: at most 2^62. Both signs have the same, so
+// that nothing has to be turned first.
+pub fn square(d: i32) -> u64
+    ensures { λ r. ⌜ (r ≡ natAbs d * natAbs d) × (r ≤ 4611686018427387904) ⌝ }
+{
+    let w = d as i64;
+    (w * w) as u64
 }
 
 // What dist answers, for points that are known to be on the panel or need not be.
@@ -44,7 +55,7 @@ pub fn apart(p: Point, q: Point) -> u32
 pub fn apart2(p: Point, q: Point) -> u64
     ensures { λ r. ⌜ r ≡ distance2 p q ⌝ }
 {
-    square(gap(p.x, q.x)) + square(gap(p.y, q.y))
+    square(offset(p.x, q.x)) + square(offset(p.y, q.y))
 }
 
 // The larger of the two differences of two points on the panel.
