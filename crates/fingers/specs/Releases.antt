@@ -14,8 +14,12 @@ use Rattle.fingers.specs.declared.gestures.Outcome.{Outcome}
 use Rattle.fingers.specs.declared.gestures.Outcome.the-variants.{Noted, Gives}
 use Rattle.fingers.specs.declared.one.One.{One}
 
+-- nothing, and a note for the log with a point
+abbrev pub noted : ℕ → Point → Outcome
+noted number p = Noted (record { number = number; p = p })
+
 unfoldable pub tapOrNote : One → Point → ℕ → Outcome
-tapOrNote o start note = if o .far ≤? tapSlop then Gives (Tap start) else Noted note (o .last)
+tapOrNote o start note = if o .far ≤? tapSlop then Gives (Tap start) else noted note (o .last)
 
 -- held: for how long the finger was down
 unfoldable pub isSwipe : ℕ → ℕ → ℕ → Bool
@@ -25,7 +29,7 @@ unfoldable pub swipeOrNote : Point → Point → ℕ → ℕ → Outcome
 swipeOrNote start p1 dx dy =
     if 2 * dy <? dx then (if start .x <? p1 .x then Gives SwipeRight else Gives SwipeLeft)
     else if 2 * dx <? dy then (if start .y <? p1 .y then Gives SwipeDown else Gives SwipeUp)
-    else Noted noteSlant p1
+    else noted noteSlant p1
 
 unfoldable pub releaseBy : One → Point → ℕ → ℕ → ℕ → Outcome
 releaseBy o start held dx dy =

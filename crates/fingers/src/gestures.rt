@@ -32,11 +32,17 @@ pub enum Gesture {
     PinchEnd(bool),
 }
 
+// Why a touch came to nothing, for the log: the note's number and the point that goes with it.
+pub struct Note {
+    pub number: u8,
+    pub p: Point,
+}
+
 // What a step comes to.
 pub enum Outcome {
     // Nothing, and nothing to log.
     Quiet,
-    // Nothing, and a note for the log of why, with a point.
-    Noted(u8, Point),
+    // Nothing, and a note for the log of why.
+    Noted(Note),
     Gives(Gesture),
 }

@@ -11,6 +11,7 @@ mod several;
 mod sizes;
 
 pub use gestures::Gesture;
+pub use gestures::Note;
 pub use gestures::Outcome;
 pub use hold::elapsed;
 pub use hold::held_still;

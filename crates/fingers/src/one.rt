@@ -22,19 +22,19 @@ pub struct One {
     pub moved: bool,
     // Farthest distance from the touch-down so far, pixels.
     pub far: u16,
-    pub long_sent: bool,
+    // The app owns this touch: no swipe or tap on release.
+    pub captured: bool,
+    // Raw-move touch: raw_next was on at the capture.
+    pub raw: bool,
     // Drag axis, decided once past SLOP.
     pub axis: AxisLock,
+    pub long_sent: bool,
     // Hold-to-grab: held still long enough, drags are allowed.
     pub grabbed: bool,
     // Captured with capture_direct: no hold-to-grab for this touch.
     pub direct: bool,
     // Hold-to-grab: moved past GRAB_SLOP before the grab, so that it never drags.
     pub early: bool,
-    // The app owns this touch: no swipe or tap on release.
-    pub captured: bool,
-    // Raw-move touch: raw_next was on at the capture.
-    pub raw: bool,
 }
 
 pub struct OneStep {

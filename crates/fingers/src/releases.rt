@@ -5,6 +5,7 @@ ghost use Prim.Native.Nat.{_+_, min};
 ghost use Rattle.fingers.specs.Sizes.{noteFar, noteFarMost};
 ghost use Rattle.fingers.specs.Releases.{tapOrNote, isSwipe, swipeOrNote, releaseBy, releaseOf};
 use crate::gestures::Gesture;
+use crate::gestures::Note;
 use crate::gestures::Outcome;
 use crate::hold;
 use crate::one::One;
@@ -24,7 +25,10 @@ fn tap_or(o: One, p0: Point, note: u8) -> Outcome
         return Outcome::Gives(Gesture::Tap(p0));
     }
     let p1 = o.last;
-    Outcome::Noted(note, p1)
+    Outcome::Noted(Note {
+        number: note,
+        p: p1,
+    })
 }
 
 fn is_swipe(held: u64, dx: u16, dy: u16) -> bool
@@ -52,7 +56,10 @@ fn swipe(p0: Point, p1: Point, dx: u16, dy: u16) -> Outcome
         }
         return Outcome::Gives(Gesture::SwipeUp);
     }
-    Outcome::Noted(NOTE_SLANT, p1)
+    Outcome::Noted(Note {
+        number: NOTE_SLANT,
+        p: p1,
+    })
 }
 
 fn note_of(far: u16) -> u8

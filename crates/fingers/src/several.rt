@@ -15,14 +15,13 @@ use crate::sizes::MULTI_MIN_3;
 use panel::Point;
 
 pub struct Multi {
-    // Most fingers seen in this touch.
-    pub n: u8,
-    // Centroid and time when n fingers were first seen.
-    pub c0: Point,
+    // Time and centroid when n fingers were first seen, n the most seen in this touch.
     pub t0: u64,
-    // Centroid and time of the last report with n fingers.
-    pub c1: Point,
+    pub n: u8,
+    pub c0: Point,
+    // Time and centroid of the last report with n fingers.
     pub t1: u64,
+    pub c1: Point,
 }
 
 pub struct MultiStep {

@@ -38,7 +38,7 @@ answered gesture log t = record { refusal = 0; gesture = gesture; log = log; tra
 
 unfoldable pub givenBy : Outcome → Given
 givenBy Quiet = Nothing
-givenBy (Noted note p) = Nothing
+givenBy (Noted note) = Nothing
 givenBy (Gives g) = Gave g
 
 -- The report.

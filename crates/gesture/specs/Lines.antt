@@ -15,6 +15,7 @@ use Rattle.panel.specs.declared.axes.AxisLock.{AxisLock}
 use Rattle.panel.specs.declared.axes.AxisLock.the-variants.{Free, On}
 use Rattle.fingers.specs.declared.gestures.Gesture.{Gesture}
 use Rattle.fingers.specs.declared.gestures.Gesture.the-variants.{Down, Tap, LongPress, Drag, Grab, Up, SwipeLeft, SwipeRight, SwipeUp, SwipeDown, Cancel, MultiSwipeDown, KeyDown, KeyUp, Move, Pinch, PinchEnd}
+use Rattle.fingers.specs.declared.gestures.Note.{Note}
 use Rattle.fingers.specs.declared.gestures.Outcome.{Outcome}
 use Rattle.fingers.specs.declared.gestures.Outcome.the-variants.{Quiet, Noted, Gives}
 use Rattle.gesture.specs.Letters.{ascii-D, ascii-T, ascii-L, ascii-M, ascii-G, ascii-U, ascii-less, ascii-greater, ascii-caret, ascii-v, ascii-C, ascii-W, ascii-K, ascii-k, ascii-E, ascii-N, ascii-c}
@@ -80,14 +81,18 @@ isDrag (PinchEnd released) = false
 unfoldable pub reportGestureLine : Gesture → AxisLock → ℕ → Log
 reportGestureLine g before now = if isDrag g and isLocked before then Silent else gestureLine g now
 
+-- "N, its note", and its point
+unfoldable pub noteLine : Note → ℕ → Log
+noteLine note now = line ascii-N (note .number) (note .p) now
+
 unfoldable pub reportLine : Outcome → AxisLock → ℕ → Log
 reportLine Quiet before now = Silent
-reportLine (Noted note p) before now = line ascii-N note p now
+reportLine (Noted note) before now = noteLine note now
 reportLine (Gives g) before now = reportGestureLine g before now
 
 unfoldable pub tickLine : Outcome → ℕ → Log
 tickLine Quiet now = Silent
-tickLine (Noted note p) now = line ascii-N note p now
+tickLine (Noted note) now = noteLine note now
 tickLine (Gives g) now = gestureLine g now
 
 unfoldable pub captureLine : Bool → Point → Log

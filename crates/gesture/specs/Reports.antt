@@ -23,13 +23,13 @@ use Rattle.fingers.specs.Sizes.{liftGap, noteResidual}
 use Rattle.fingers.specs.Keys.{keyStep}
 use Rattle.fingers.specs.Fields.{reset}
 use Rattle.fingers.specs.OneFinger.{laterReport}
-use Rattle.fingers.specs.Releases.{releaseOf}
+use Rattle.fingers.specs.Releases.{noted, releaseOf}
 use Rattle.fingers.specs.Pairs.{newPair}
 use Rattle.fingers.specs.Several.{multiStep, multiFrom, twoFingers, threeFingers, multiEnd}
 use Rattle.fingers.specs.declared.gestures.Gesture.the-variants.{Cancel}
 use Rattle.fingers.specs.declared.gestures.Gesture.the-variants as gesture
 use Rattle.fingers.specs.declared.gestures.Outcome.{Outcome}
-use Rattle.fingers.specs.declared.gestures.Outcome.the-variants.{Quiet, Noted, Gives}
+use Rattle.fingers.specs.declared.gestures.Outcome.the-variants.{Quiet, Gives}
 use Rattle.fingers.specs.declared.keys.KeyStep.{KeyStep}
 use Rattle.fingers.specs.declared.keys.KeyStep.the-variants.{Same, Flipped}
 use Rattle.fingers.specs.declared.one.One.{One}
@@ -69,7 +69,7 @@ isLastFinger Never now = false
 isLastFinger (At end) now = now - end <? liftGap
 
 unfoldable pub residualTouch : Tracker → Point → Step
-residualTouch t p = step (Noted noteResidual p) (setTouch t Residual (t .one) Never)
+residualTouch t p = step (noted noteResidual p) (setTouch t Residual (t .one) Never)
 
 unfoldable pub newTouch : Tracker → Point → ℕ → Step
 newTouch t p now = step (Gives (gesture.Down p)) (setTouch t (Down p now) (reset p) Never)

@@ -54,7 +54,7 @@ pub(crate) fn given_by(out: Outcome) -> Given
 {
     match out {
         Outcome::Quiet => Given::Nothing,
-        Outcome::Noted(_, _) => Given::Nothing,
+        Outcome::Noted(_) => Given::Nothing,
         Outcome::Gives(g) => Given::Gave(g),
     }
 }

@@ -2,9 +2,10 @@
 // gestures' code numbers; or a note of why a touch came to nothing.
 ghost use mathlib.Core.Path.{_≡_};
 ghost use Rattle.gesture.specs.Lines as rule;
-ghost use Rattle.gesture.specs.Lines.{axisNumber, isLocked, gestureLine, reportGestureLine, reportLine, tickLine, captureLine};
+ghost use Rattle.gesture.specs.Lines.{axisNumber, isLocked, gestureLine, reportGestureLine, noteLine, reportLine, tickLine, captureLine};
 ghost use Rattle.gesture.specs.Codes.{codedAs, codeOf, lineByCode, isLaterDrag};
 use fingers::Gesture;
+use fingers::Note;
 use fingers::Outcome;
 use panel::Axis;
 use panel::AxisLock;
@@ -153,13 +154,20 @@ fn report_gesture_line(g: Gesture, before: AxisLock, now: u64) -> Log
     line_by_code(c.code, c.number, p, now)
 }
 
+fn log_note(note: Note, now: u64) -> Log
+    ensures { λ r. ⌜ r ≡ noteLine note now ⌝ }
+{
+    let p = note.p;
+    logged(b'N', note.number, p, now)
+}
+
 // The line of a report; the axis lock is the one before it.
 pub(crate) fn report_line(out: Outcome, before: AxisLock, now: u64) -> Log
     ensures { λ r. ⌜ r ≡ reportLine out before now ⌝ }
 {
     match out {
         Outcome::Quiet => Log::Silent,
-        Outcome::Noted(note, p) => logged(b'N', note, p, now),
+        Outcome::Noted(note) => log_note(note, now),
         Outcome::Gives(g) => report_gesture_line(g, before, now),
     }
 }
@@ -169,7 +177,7 @@ pub(crate) fn tick_line(out: Outcome, now: u64) -> Log
 {
     match out {
         Outcome::Quiet => Log::Silent,
-        Outcome::Noted(note, p) => logged(b'N', note, p, now),
+        Outcome::Noted(note) => log_note(note, now),
         Outcome::Gives(g) => log_gesture(g, now),
     }
 }

@@ -34,10 +34,10 @@ pub struct Tracker {
     // ... and as the last report has them. They differ after a report that changed more than one key: the
     // rest is told one key per call, releases first, at the next report or tick.
     pub keys_want: u8,
-    // Hold-to-grab time, 0 for direct drags.
-    pub grab_ms: u16,
     // The next capture makes the touch a raw-move touch.
     pub raw_next: bool,
+    // Hold-to-grab time, 0 for direct drags.
+    pub grab_ms: u16,
 }
 
 pub struct Step {

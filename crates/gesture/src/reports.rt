@@ -14,6 +14,7 @@ use fingers::KeyStep;
 use fingers::LIFT_GAP_MS;
 use fingers::MultiStep;
 use fingers::NOTE_RESIDUAL;
+use fingers::Note;
 use fingers::One;
 use fingers::OneStep;
 use fingers::Outcome;
@@ -74,7 +75,10 @@ fn residual(t: Tracker, p: Point) -> Step
 {
     let one = t.one;
     Step {
-        out: Outcome::Noted(NOTE_RESIDUAL, p),
+        out: Outcome::Noted(Note {
+            number: NOTE_RESIDUAL,
+            p,
+        }),
         tracker: record::with_touch(t, Touch::Residual, one, MultiEnd::Never),
     }
 }

@@ -11,8 +11,8 @@ enum-told c = search needs
 enum-known-out : tie.Need-enum-known-out
 enum-known-out c = search needs
 
-logged-requires : tie.Need-logged-requires
-logged-requires c κs = search needs
+log-note-requires : tie.Need-log-note-requires
+log-note-requires c κs = search needs
 
 enum-known-out-2 : tie.Need-enum-known-out-2
 enum-known-out-2 c = search needs
@@ -26,7 +26,7 @@ returns c = search (follow, c .enum-told .given .1)
 
 returns-2 : tie.Need-returns-2
 unfolding reportLine
-returns-2 c = search (follow, ← c .logged .ensures, c .before .before .out .given .1)
+returns-2 c = search (follow, ← c .log-note .ensures, c .before .before .out .given .1)
 
 returns-3 : tie.Need-returns-3
 unfolding reportLine
@@ -38,7 +38,7 @@ report-line-spec =
     (tie.spec
     enum-told
     enum-known-out
-    logged-requires
+    log-note-requires
     enum-known-out-2
     report-gesture-line-requires
     returns
