@@ -11,6 +11,7 @@
 #define CALLS_MOST 16
 #define POINTS 5
 #define LINES 160
+#define TICKS 6 /* the number of the row of ticks */
 
 static uint8_t in[4096];
 static size_t length, at;
@@ -25,12 +26,18 @@ static uint64_t number(void) {
     return v;
 }
 
-static struct {
-    int is_tick;
+struct call {
     uint64_t time;
     uint8_t keys, count;
     uint16_t px, py, x[POINTS], y[POINTS];
-} calls[CALLS_MOST];
+};
+
+static struct call calls[CALLS_MOST];
+
+static void event(uint8_t *image, const struct call *c, uint64_t *out) {
+    touch_event(image, TOUCH_IMAGE_BYTES, c->time, c->keys, c->count, c->px, c->py, c->x[0], c->y[0], c->x[1], c->y[1], c->x[2],
+                c->y[2], c->x[3], c->y[3], c->x[4], c->y[4], out);
+}
 
 static struct {
     uint32_t time;
@@ -38,16 +45,27 @@ static struct {
     uint16_t x, y;
 } ring[LINES];
 
+static uint32_t lines;
+
+static void store(const uint64_t *out) {
+    if (out[TOUCH_OUT_LETTER] == 0) return;
+    ring[lines % LINES].time = (uint32_t)out[TOUCH_OUT_LOG_TIME];
+    ring[lines % LINES].letter = (uint8_t)out[TOUCH_OUT_LETTER];
+    ring[lines % LINES].argument = (uint8_t)out[TOUCH_OUT_ARGUMENT];
+    ring[lines % LINES].x = (uint16_t)out[TOUCH_OUT_LOG_X];
+    ring[lines % LINES].y = (uint16_t)out[TOUCH_OUT_LOG_Y];
+    lines++;
+}
+
 int main(void) {
     ssize_t got;
     while (length < sizeof in && (got = read(0, in + length, sizeof in - length)) > 0) length += (size_t)got;
-    number(); /* the row */
-    uint64_t n = number();
-    size_t once = number(), held = 0;
+    uint64_t row = number(), n = number();
+    size_t held = 0;
     for (; at < length && held < CALLS_MOST; held++) {
-        calls[held].is_tick = number() != 1;
+        int is_tick = number() != 1;
         calls[held].time = number();
-        if (calls[held].is_tick) continue;
+        if (is_tick) continue;
         calls[held].keys = (uint8_t)number();
         calls[held].count = (uint8_t)number();
         for (unsigned i = 0; i < calls[held].count && i < POINTS; i++) {
@@ -59,26 +77,17 @@ int main(void) {
     }
     uint8_t image[TOUCH_IMAGE_BYTES];
     uint64_t out[TOUCH_OUT], sum = 0;
-    uint32_t lines = 0;
     size_t k = 0;
     touch_fresh(image, sizeof image);
+    if (row == TICKS) event(image, &calls[0], out); /* the finger that is down meanwhile */
     for (uint64_t i = 0; i < n; i++) {
-        if (calls[k].is_tick)
+        if (row == TICKS)
             touch_tick(image, sizeof image, calls[k].time, out);
         else
-            touch_event(image, sizeof image, calls[k].time, calls[k].keys, calls[k].count, calls[k].px, calls[k].py,
-                        calls[k].x[0], calls[k].y[0], calls[k].x[1], calls[k].y[1], calls[k].x[2], calls[k].y[2],
-                        calls[k].x[3], calls[k].y[3], calls[k].x[4], calls[k].y[4], out);
+            event(image, &calls[k], out);
         sum += out[TOUCH_OUT_GESTURE];
-        if (out[TOUCH_OUT_LETTER] != 0) {
-            ring[lines % LINES].time = (uint32_t)out[TOUCH_OUT_LOG_TIME];
-            ring[lines % LINES].letter = (uint8_t)out[TOUCH_OUT_LETTER];
-            ring[lines % LINES].argument = (uint8_t)out[TOUCH_OUT_ARGUMENT];
-            ring[lines % LINES].x = (uint16_t)out[TOUCH_OUT_LOG_X];
-            ring[lines % LINES].y = (uint16_t)out[TOUCH_OUT_LOG_Y];
-            lines++;
-        }
-        k = k + 1 < held ? k + 1 : once;
+        store(out);
+        k = k + 1 < held ? k + 1 : 0;
     }
     for (unsigned i = 0; i < LINES; i++) sum += ring[i].time + ring[i].letter + ring[i].argument + ring[i].x + ring[i].y;
     printf("%" PRIu64, sum);

@@ -21,10 +21,9 @@ static void put(uint64_t v) {
 /* A signed number is written 2v, or -2v - 1 below zero. */
 static void put_signed(int64_t v) { put(v < 0 ? (uint64_t)(-2 * v - 1) : (uint64_t)(2 * v)); }
 
-static void head(uint64_t row, uint64_t calls, uint64_t once) {
+static void head(uint64_t row, uint64_t calls) {
     put(row);
     put(calls);
-    put(once);
 }
 
 static void report(uint64_t time, unsigned keys, unsigned count) {
@@ -90,7 +89,7 @@ static void keys(void) {
     for (unsigned i = 0; i < 8; i++) report(10 * i, masks[i], 0);
 }
 
-/* While a finger is down, before its long press is due. */
+/* While the finger of the first report is down, before its long press is due: that report's time too is a tick's. */
 static void ticks(void) {
     one(0, 100, 50);
     for (unsigned i = 1; i < 7; i++) tick(100 * i);
@@ -199,11 +198,11 @@ static void trace(size_t n) {
 
 static const struct {
     const char *name;
-    uint64_t row, once;
+    uint64_t row;
     void (*body)(void);
 } rows[] = {
-    {"one", 1, 0, one_finger}, {"pinch", 1, 0, pinch}, {"keys", 1, 0, keys}, {"tick", 1, 1, ticks},
-    {"apply16", 2, 0, apply16}, {"isqrt", 3, 0, isqrt}, {"q16", 4, 0, q16}, {"fit", 5, 0, fit},
+    {"one", 1, one_finger}, {"pinch", 1, pinch}, {"keys", 1, keys}, {"apply16", 2, apply16},
+    {"isqrt", 3, isqrt}, {"q16", 4, q16}, {"fit", 5, fit}, {"tick", 6, ticks},
 };
 
 int main(int argc, char **argv) {
@@ -214,7 +213,7 @@ int main(int argc, char **argv) {
     } else {
         for (size_t i = 0; i < sizeof rows / sizeof *rows; i++)
             if (strcmp(argv[1], rows[i].name) == 0) {
-                head(rows[i].row, n, rows[i].once);
+                head(rows[i].row, n);
                 rows[i].body();
             }
     }

@@ -32,10 +32,10 @@ fn code(g: Option<Gesture>) -> u64 {
     }
 }
 
-/// A report or a tick, and its time.
+/// A report, an empty one for a tick, and its time.
 #[derive(Clone, Copy)]
 struct Held {
-    event: Option<Event>,
+    event: Event,
     time: u64,
 }
 
@@ -46,9 +46,9 @@ fn held(r: &mut Reader) -> Vec<Held> {
     while calls.len() < CALLS_MOST && !r.done() {
         let Ok(kind) = r.next(u64::MAX) else { break };
         let call = if kind == 1 {
-            play::report(r).map(|(time, ev)| Held { event: Some(ev), time })
+            play::report(r).map(|(time, event)| Held { event, time })
         } else {
-            r.next(u64::MAX).map(|time| Held { event: None, time })
+            r.next(u64::MAX).map(|time| Held { event: Event::default(), time })
         };
         let Ok(call) = call else { break };
         calls.push(call);
@@ -56,21 +56,39 @@ fn held(r: &mut Reader) -> Vec<Held> {
     calls
 }
 
-fn tracker(r: &mut Reader, calls: u64, first: u64) -> u64 {
+fn reports(r: &mut Reader, calls: u64) -> u64 {
     let held = held(r);
     let mut t = Tracker::new();
     let mut sum = 0u64;
     let mut k = 0;
     for _ in 0..calls {
         let h = &held[k];
-        let g = match &h.event {
-            None => t.tick(h.time),
-            Some(ev) => t.event(ev, h.time),
-        };
-        sum = sum.wrapping_add(code(g));
-        k = if k + 1 < held.len() { k + 1 } else { first as usize };
+        sum = sum.wrapping_add(code(t.event(&h.event, h.time)));
+        k = if k + 1 < held.len() { k + 1 } else { 0 };
     }
     sum.wrapping_add(touch::logged())
+}
+
+/// While the finger of the first report is down, whose line does not count.
+fn ticks(r: &mut Reader, calls: u64) -> u64 {
+    let held = held(r);
+    let mut t = touched(&held[0]);
+    let before = touch::logged();
+    let mut sum = 0u64;
+    let mut k = 0;
+    for _ in 0..calls {
+        sum = sum.wrapping_add(code(t.tick(held[k].time)));
+        k = if k + 1 < held.len() { k + 1 } else { 0 };
+    }
+    sum.wrapping_add(touch::logged().wrapping_sub(before))
+}
+
+/// A tracker of its own for the ticks, so that the event of the reports stays the only one in its loop.
+#[inline(never)]
+fn touched(h: &Held) -> Tracker {
+    let mut t = Tracker::new();
+    t.event(&h.event, h.time);
+    t
 }
 
 fn all(r: &mut Reader) -> Vec<u64> {
@@ -145,17 +163,18 @@ fn fit(v: &[u64], calls: u64) -> u64 {
     sum
 }
 
-/// The number of a row: which, how many calls, how many of them are made once, and what it takes.
+/// The number of a row: which, how many calls, and what it takes.
 fn measured(bytes: &[u8]) -> Option<u64> {
     let mut r = Reader { bytes, at: 0 };
     let mut number = || r.next(u64::MAX).ok();
-    let (row, calls, first) = (number()?, number()?, number()?);
+    let (row, calls) = (number()?, number()?);
     Some(match row {
-        1 => tracker(&mut r, calls, first),
+        1 => reports(&mut r, calls),
         2 => apply16(&all(&mut r), calls),
         3 => isqrt(&all(&mut r), calls),
         4 => q16(&all(&mut r), calls),
         5 => fit(&all(&mut r), calls),
+        6 => ticks(&mut r, calls),
         _ => 0,
     })
 }

@@ -12,12 +12,10 @@ pub const PLACES: usize = 16;
 pub struct Calls {
     pub events: [Event; PLACES],
     pub times: [u64; PLACES],
-    pub ticks: [bool; PLACES],
     pub n: usize,
 }
 
 struct One {
-    is_tick: bool,
     time: u64,
     next: usize,
 }
@@ -40,21 +38,9 @@ fn no_event() -> Event {
 
 fn kept(k: CallKind, next: usize) -> One {
     match k {
-        CallKind::Report(time) => One {
-            is_tick: false,
-            time,
-            next,
-        },
-        CallKind::Tick(time) => One {
-            is_tick: true,
-            time,
-            next,
-        },
-        _ => One {
-            is_tick: true,
-            time: 0,
-            next,
-        },
+        CallKind::Report(time) => One { time, next },
+        CallKind::Tick(time) => One { time, next },
+        _ => One { time: 0, next },
     }
 }
 
@@ -70,7 +56,6 @@ fn one_of(t: Taken, length: usize) -> One {
     match t {
         Taken::Call(k, next) => kept(k, next),
         Taken::Refused(_, _) => One {
-            is_tick: true,
             time: 0,
             next: length,
         },
@@ -81,7 +66,6 @@ fn one_of(t: Taken, length: usize) -> One {
 pub fn calls_at(s: &[u8], c: Cursor) -> Calls {
     let mut events = [no_event(); PLACES];
     let mut times = [0u64; PLACES];
-    let mut ticks = [false; PLACES];
     let mut at = place_of(c);
     let mut n = 0;
     while n < PLACES {
@@ -92,22 +76,11 @@ pub fn calls_at(s: &[u8], c: Cursor) -> Calls {
             let ev = r.event;
             events[n] = ev;
             times[n] = one.time;
-            ticks[n] = one.is_tick;
             at = one.next;
             n += 1;
         } else {
-            return Calls {
-                events,
-                times,
-                ticks,
-                n,
-            };
+            return Calls { events, times, n };
         }
     }
-    Calls {
-        events,
-        times,
-        ticks,
-        n,
-    }
+    Calls { events, times, n }
 }

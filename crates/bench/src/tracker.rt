@@ -3,9 +3,10 @@ ghost use Prim.Native.Nat.{_<_};
 use crate::fold;
 use crate::held;
 use crate::held::Calls;
-use gesture::Answer;
 use gesture::Line;
 use gesture::Log;
+use gesture::MultiEnd;
+use gesture::Touch;
 use gesture::Tracker;
 use panel::Event;
 use panel::Point;
@@ -48,32 +49,16 @@ fn with_lines(sum: u64, ring: [Line; LINES]) -> u64 {
     r
 }
 
-fn made(t: Tracker, is_tick: bool, ev: Event, time: u64) -> Answer {
-    if is_tick {
-        return gesture::tick(t, time);
-    }
-    gesture::event(t, ev, time)
-}
-
-// The call after call k: from the last one back to the first that is not made only once.
-fn after(k: usize, n: usize, first: usize) -> usize {
+// The call after call k: from the last one of n back to the first.
+fn after(k: usize, n: usize) -> usize {
     let next = std::num::wrapping_add_usize(k, 1);
-    if next < n { next } else { first }
+    if next < n { next } else { 0 }
 }
 
-fn in_places(n: u64) -> usize {
-    if n < 16 {
-        return n as usize;
-    }
-    0
-}
-
-// So many calls, each on the tracker that the last one left.
-pub fn on_values(c: Calls, calls: u64, once: u64) -> u64 {
+// So many reports, each on the tracker that the last one left.
+pub fn reports(c: Calls, calls: u64) -> u64 {
     let events = c.events;
     let times = c.times;
-    let ticks = c.ticks;
-    let first = in_places(once);
     let mut ring = [no_line(); LINES];
     let mut lines = 0u32;
     let mut t = gesture::fresh();
@@ -84,8 +69,52 @@ pub fn on_values(c: Calls, calls: u64, once: u64) -> u64 {
         i += 1;
         let j = held::slot(k);
         let ev = events[j];
-        let a = made(t, ticks[j], ev, times[j]);
-        k = after(k, c.n, first);
+        let a = gesture::event(t, ev, times[j]);
+        k = after(k, c.n);
+        t = a.tracker;
+        let g = a.gesture;
+        let log = a.log;
+        sum = fold::with(sum, fold::given(g));
+        if let Log::Logged(l) = log {
+            let m = in_ring(lines);
+            lines = std::num::wrapping_add_u32(lines, 1);
+            ring[m] = l;
+        }
+    }
+    with_lines(sum, ring)
+}
+
+// The tracker that a touch-down leaves, without a call of event: a second call in the program would keep both from being
+// taken into their loops.
+fn touched(ev: Event, now: u64) -> Tracker {
+    let p = ev.p;
+    Tracker {
+        touch: Touch::Down(p, now),
+        one: fingers::reset(p),
+        multi_end: MultiEnd::Never,
+        keys: 0,
+        keys_want: 0,
+        raw_next: false,
+        grab_ms: 0,
+    }
+}
+
+// So many ticks, while the finger of the first report is down.
+pub fn ticks(c: Calls, calls: u64) -> u64 {
+    let events = c.events;
+    let times = c.times;
+    let ev = events[0];
+    let mut ring = [no_line(); LINES];
+    let mut lines = 0u32;
+    let mut t = touched(ev, times[0]);
+    let mut sum = 0u64;
+    let mut k = 0;
+    let mut i = 0u64;
+    while i < calls {
+        i += 1;
+        let j = held::slot(k);
+        let a = gesture::tick(t, times[j]);
+        k = after(k, c.n);
         t = a.tracker;
         let g = a.gesture;
         let log = a.log;

@@ -14,10 +14,10 @@ use Rattle.bench.proofs.held.place_of.Reads as place-of-reads
 use Rattle.trace.proofs.next_record.Reads as next-record-reads
 
 abbrev Inv-loop : tie.InvT-loop
-Inv-loop s events₀ times₀ ticks₀ at₀ n₀ events times ticks at n = (length events ≡ 16) × (length times ≡ 16) × (length ticks ≡ 16)
+Inv-loop s events₀ times₀ at₀ n₀ events times at n = (length events ≡ 16) × (length times ≡ 16)
 
 abbrev μ-loop : tie.MeasureT-loop
-μ-loop s events₀ times₀ ticks₀ at₀ n₀ events times ticks at n = 16 - n
+μ-loop s events₀ times₀ at₀ n₀ events times at n = 16 - n
 
 no-event-requires : tie.Need-no-event-requires Inv-loop μ-loop
 no-event-requires c κs = search needs
@@ -45,9 +45,6 @@ mul-times c = search needs
 
 array-write-times : tie.Need-array-write-times Inv-loop μ-loop
 array-write-times c = search needs
-
-array-write-ticks : tie.Need-array-write-ticks Inv-loop μ-loop
-array-write-ticks c = search needs
 
 add-n : tie.Need-add-n Inv-loop μ-loop
 add-n c = search needs
@@ -79,7 +76,6 @@ calls-at-spec =
     array-set-from-events
     mul-times
     array-write-times
-    array-write-ticks
     add-n
     loop-less
     loop-again

@@ -1,39 +1,41 @@
--- `bench::tracker::on_values` is safe and ends. Assumes nothing.
+-- `bench::tracker::ticks` is safe and ends. Assumes nothing.
 use Prim.Native.Nat.{_≤_, _-_}
 use mathlib.Core.Path.{_≡_}
 use native.Mathlib.Omega.{arith}
 use borrow.Author.Needs.{needs}
 use lib.ListN.{length}
-use Rattle.bench.proofs.tracker.on_values.Statement.{statement}
-use Rattle.bench.proofs.tracker.on_values.Tie as tie
-use Rattle.bench.proofs.tracker.on_values.Reads as reads
-use Rattle.bench.proofs.tracker.on_values.Lts as lts
+use Rattle.bench.proofs.tracker.ticks.Statement.{statement}
+use Rattle.bench.proofs.tracker.ticks.Tie as tie
+use Rattle.bench.proofs.tracker.ticks.Reads as reads
+use Rattle.bench.proofs.tracker.ticks.Lts as lts
 use Rattle.bench.proofs.fold.given.Reads as given-reads
 use Rattle.bench.proofs.fold.with.Reads as with-reads
 use Rattle.bench.proofs.held.slot.Reads as slot-reads
 use Rattle.bench.proofs.tracker.after.Reads as after-reads
-use Rattle.bench.proofs.tracker.in_places.Reads as in-places-reads
 use Rattle.bench.proofs.tracker.in_ring.Reads as in-ring-reads
-use Rattle.bench.proofs.tracker.made.Reads as made-reads
 use Rattle.bench.proofs.tracker.no_line.Reads as no-line-reads
+use Rattle.bench.proofs.tracker.touched.Reads as touched-reads
 use Rattle.bench.proofs.tracker.with_lines.Reads as with-lines-reads
-use Rattle.gesture.proofs.fresh.Reads as fresh-reads
+use Rattle.gesture.proofs.tick.Reads as tick-reads
 use Rattle.std.proofs.num.wrapping_add_u32.Reads as wrapping-add-u32-reads
 
 abbrev Inv-loop : tie.InvT-loop
-Inv-loop c calls once events times ticks first ring₀ lines₀ t₀ sum₀ k₀ i₀ ring lines t sum k i = length ring ≡ 160
+Inv-loop c calls times ring₀ lines₀ t₀ sum₀ k₀ i₀ ring lines t sum k i = length ring ≡ 160
 
 abbrev μ-loop : tie.MeasureT-loop
-μ-loop c calls once events times ticks first ring₀ lines₀ t₀ sum₀ k₀ i₀ ring lines t sum k i = calls - i
+μ-loop c calls times ring₀ lines₀ t₀ sum₀ k₀ i₀ ring lines t sum k i = calls - i
 
-in-places-requires : tie.Need-in-places-requires Inv-loop μ-loop
-in-places-requires c κs = search needs
+array-copy-out-ev : tie.Need-array-copy-out-ev Inv-loop μ-loop
+array-copy-out-ev c = search needs
 
 no-line-requires : tie.Need-no-line-requires Inv-loop μ-loop
 no-line-requires c κs = search needs
 
-fresh-requires : tie.Need-fresh-requires Inv-loop μ-loop
-fresh-requires c κs = search needs
+array-read-touched : tie.Need-array-read-touched Inv-loop μ-loop
+array-read-touched c = search needs
+
+touched-requires : tie.Need-touched-requires Inv-loop μ-loop
+touched-requires c κs = search needs
 
 loop-holds : tie.Need-loop-holds Inv-loop μ-loop
 loop-holds c = search needs
@@ -44,23 +46,14 @@ add-i c = search needs
 slot-requires : tie.Need-slot-requires Inv-loop μ-loop
 slot-requires c κs = search needs
 
-mul-ev : tie.Need-mul-ev Inv-loop μ-loop
-mul-ev c = search needs
+mul-tick : tie.Need-mul-tick Inv-loop μ-loop
+mul-tick c = search needs
 
-array-copy-out-ev : tie.Need-array-copy-out-ev Inv-loop μ-loop
-array-copy-out-ev c = search needs
+array-read-tick : tie.Need-array-read-tick Inv-loop μ-loop
+array-read-tick c = search needs
 
-array-read-made : tie.Need-array-read-made Inv-loop μ-loop
-array-read-made c = search needs
-
-mul-made : tie.Need-mul-made Inv-loop μ-loop
-mul-made c = search needs
-
-array-read-made-2 : tie.Need-array-read-made-2 Inv-loop μ-loop
-array-read-made-2 c = search needs
-
-made-requires : tie.Need-made-requires Inv-loop μ-loop
-made-requires c κs = search needs
+tick-requires : tie.Need-tick-requires Inv-loop μ-loop
+tick-requires c κs = search needs
 
 after-requires : tie.Need-after-requires Inv-loop μ-loop
 after-requires c κs = search needs
@@ -107,24 +100,22 @@ with-lines-requires c κs = search needs
 returns : tie.Need-returns Inv-loop μ-loop
 returns c = search needs
 
-pub on-values-spec : {M : Type 1} → statement M
-on-values-spec =
+pub ticks-spec : {M : Type 1} → statement M
+ticks-spec =
     tie.close
     (tie.spec
     Inv-loop
     μ-loop
-    in-places-requires
+    array-copy-out-ev
     no-line-requires
-    fresh-requires
+    array-read-touched
+    touched-requires
     loop-holds
     add-i
     slot-requires
-    mul-ev
-    array-copy-out-ev
-    array-read-made
-    mul-made
-    array-read-made-2
-    made-requires
+    mul-tick
+    array-read-tick
+    tick-requires
     after-requires
     given-requires
     with-requires

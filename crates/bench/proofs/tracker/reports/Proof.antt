@@ -1,0 +1,133 @@
+-- `bench::tracker::reports` is safe and ends. Assumes nothing.
+use Prim.Native.Nat.{_≤_, _-_}
+use mathlib.Core.Path.{_≡_}
+use native.Mathlib.Omega.{arith}
+use borrow.Author.Needs.{needs}
+use lib.ListN.{length}
+use Rattle.bench.proofs.tracker.reports.Statement.{statement}
+use Rattle.bench.proofs.tracker.reports.Tie as tie
+use Rattle.bench.proofs.tracker.reports.Reads as reads
+use Rattle.bench.proofs.tracker.reports.Lts as lts
+use Rattle.bench.proofs.fold.given.Reads as given-reads
+use Rattle.bench.proofs.fold.with.Reads as with-reads
+use Rattle.bench.proofs.held.slot.Reads as slot-reads
+use Rattle.bench.proofs.tracker.after.Reads as after-reads
+use Rattle.bench.proofs.tracker.in_ring.Reads as in-ring-reads
+use Rattle.bench.proofs.tracker.no_line.Reads as no-line-reads
+use Rattle.bench.proofs.tracker.with_lines.Reads as with-lines-reads
+use Rattle.gesture.proofs.event.Reads as event-reads
+use Rattle.gesture.proofs.fresh.Reads as fresh-reads
+use Rattle.std.proofs.num.wrapping_add_u32.Reads as wrapping-add-u32-reads
+
+abbrev Inv-loop : tie.InvT-loop
+Inv-loop c calls events times ring₀ lines₀ t₀ sum₀ k₀ i₀ ring lines t sum k i = length ring ≡ 160
+
+abbrev μ-loop : tie.MeasureT-loop
+μ-loop c calls events times ring₀ lines₀ t₀ sum₀ k₀ i₀ ring lines t sum k i = calls - i
+
+no-line-requires : tie.Need-no-line-requires Inv-loop μ-loop
+no-line-requires c κs = search needs
+
+fresh-requires : tie.Need-fresh-requires Inv-loop μ-loop
+fresh-requires c κs = search needs
+
+loop-holds : tie.Need-loop-holds Inv-loop μ-loop
+loop-holds c = search needs
+
+add-i : tie.Need-add-i Inv-loop μ-loop
+add-i c = search needs
+
+slot-requires : tie.Need-slot-requires Inv-loop μ-loop
+slot-requires c κs = search needs
+
+mul-ev : tie.Need-mul-ev Inv-loop μ-loop
+mul-ev c = search needs
+
+array-copy-out-ev : tie.Need-array-copy-out-ev Inv-loop μ-loop
+array-copy-out-ev c = search needs
+
+mul-event : tie.Need-mul-event Inv-loop μ-loop
+mul-event c = search needs
+
+array-read-event : tie.Need-array-read-event Inv-loop μ-loop
+array-read-event c = search needs
+
+event-requires : tie.Need-event-requires Inv-loop μ-loop
+event-requires c κs = search needs
+
+after-requires : tie.Need-after-requires Inv-loop μ-loop
+after-requires c κs = search needs
+
+given-requires : tie.Need-given-requires Inv-loop μ-loop
+given-requires c κs = search needs
+
+with-requires : tie.Need-with-requires Inv-loop μ-loop
+with-requires c κs = search needs
+
+enum-known-log : tie.Need-enum-known-log Inv-loop μ-loop
+enum-known-log c = search needs
+
+in-ring-requires : tie.Need-in-ring-requires Inv-loop μ-loop
+in-ring-requires c κs = search needs
+
+wrapping-add-u32-requires : tie.Need-wrapping-add-u32-requires Inv-loop μ-loop
+wrapping-add-u32-requires c κs = search needs
+
+mul-ring : tie.Need-mul-ring Inv-loop μ-loop
+mul-ring c = search needs
+
+array-set-from-ring : tie.Need-array-set-from-ring Inv-loop μ-loop
+array-set-from-ring c = search needs
+
+loop-less : tie.Need-loop-less Inv-loop μ-loop
+loop-less c = search needs
+
+loop-again : tie.Need-loop-again Inv-loop μ-loop
+loop-again c = search needs
+
+enum-told : tie.Need-enum-told Inv-loop μ-loop
+enum-told c = search needs
+
+loop-less-2 : tie.Need-loop-less-2 Inv-loop μ-loop
+loop-less-2 c = search needs
+
+loop-again-2 : tie.Need-loop-again-2 Inv-loop μ-loop
+loop-again-2 c = search needs
+
+with-lines-requires : tie.Need-with-lines-requires Inv-loop μ-loop
+with-lines-requires c κs = search needs
+
+returns : tie.Need-returns Inv-loop μ-loop
+returns c = search needs
+
+pub reports-spec : {M : Type 1} → statement M
+reports-spec =
+    tie.close
+    (tie.spec
+    Inv-loop
+    μ-loop
+    no-line-requires
+    fresh-requires
+    loop-holds
+    add-i
+    slot-requires
+    mul-ev
+    array-copy-out-ev
+    mul-event
+    array-read-event
+    event-requires
+    after-requires
+    given-requires
+    with-requires
+    enum-known-log
+    in-ring-requires
+    wrapping-add-u32-requires
+    mul-ring
+    array-set-from-ring
+    loop-less
+    loop-again
+    enum-told
+    loop-less-2
+    loop-again-2
+    with-lines-requires
+    returns)
