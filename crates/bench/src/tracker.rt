@@ -3,6 +3,7 @@ ghost use Prim.Native.Nat.{_<_};
 use crate::fold;
 use crate::held;
 use crate::held::Calls;
+use gesture::Answer;
 use gesture::Line;
 use gesture::Log;
 use gesture::MultiEnd;
@@ -55,6 +56,10 @@ fn after(k: usize, n: usize) -> usize {
     if next < n { next } else { 0 }
 }
 
+fn made(t: Tracker, ev: Event, now: u64) -> Answer {
+    gesture::event(t, ev, now)
+}
+
 // So many reports, each on the tracker that the last one left.
 pub fn reports(c: Calls, calls: u64) -> u64 {
     let events = c.events;
@@ -69,7 +74,7 @@ pub fn reports(c: Calls, calls: u64) -> u64 {
         i += 1;
         let j = held::slot(k);
         let ev = events[j];
-        let a = gesture::event(t, ev, times[j]);
+        let a = made(t, ev, times[j]);
         k = after(k, c.n);
         t = a.tracker;
         let g = a.gesture;

@@ -15,7 +15,6 @@ use Rattle.bench.proofs.tracker.after.Reads as after-reads
 use Rattle.bench.proofs.tracker.in_ring.Reads as in-ring-reads
 use Rattle.bench.proofs.tracker.no_line.Reads as no-line-reads
 use Rattle.bench.proofs.tracker.with_lines.Reads as with-lines-reads
-use Rattle.gesture.proofs.event.Reads as event-reads
 use Rattle.gesture.proofs.fresh.Reads as fresh-reads
 use Rattle.std.proofs.num.wrapping_add_u32.Reads as wrapping-add-u32-reads
 
@@ -46,14 +45,14 @@ mul-ev c = search needs
 array-copy-out-ev : tie.Need-array-copy-out-ev Inv-loop μ-loop
 array-copy-out-ev c = search needs
 
-mul-event : tie.Need-mul-event Inv-loop μ-loop
-mul-event c = search needs
+mul-made : tie.Need-mul-made Inv-loop μ-loop
+mul-made c = search needs
 
-array-read-event : tie.Need-array-read-event Inv-loop μ-loop
-array-read-event c = search needs
+array-read-made : tie.Need-array-read-made Inv-loop μ-loop
+array-read-made c = search needs
 
-event-requires : tie.Need-event-requires Inv-loop μ-loop
-event-requires c κs = search needs
+made-requires : tie.Need-made-requires Inv-loop μ-loop
+made-requires c κs = search needs
 
 after-requires : tie.Need-after-requires Inv-loop μ-loop
 after-requires c κs = search needs
@@ -113,9 +112,9 @@ reports-spec =
     slot-requires
     mul-ev
     array-copy-out-ev
-    mul-event
-    array-read-event
-    event-requires
+    mul-made
+    array-read-made
+    made-requires
     after-requires
     given-requires
     with-requires
