@@ -4,6 +4,7 @@ ghost use mathlib.Core.Path.{_≡_};
 ghost use Prim.Native.Nat.{max};
 ghost use Rattle.panel.specs.Tests.{_or_, _<?_};
 ghost use Rattle.panel.specs.Distances.{distance};
+ghost use Rattle.panel.specs.declared.axes.AxisLock.the-variants.{On};
 ghost use Rattle.fingers.specs.Sizes.{slop};
 ghost use Rattle.fingers.specs.Fields as fields;
 ghost use Rattle.fingers.specs.OneFinger.{earlyNow, tracked, samePoint, moveFrom, axisAt, dragAlong, mayDrag, moving, grabOrMoving, laterReport};
@@ -12,6 +13,7 @@ use crate::gestures::Outcome;
 use crate::hold;
 use crate::sizes::GRAB_SLOP;
 use crate::sizes::SLOP;
+use panel::Axis;
 use panel::AxisLock;
 use panel::Point;
 
@@ -76,8 +78,8 @@ pub(crate) fn with_long(o: One) -> One
     n
 }
 
-fn with_axis(o: One, axis: AxisLock) -> One
-    ensures { λ r. ⌜ r ≡ fields.setAxis o axis ⌝ }
+fn with_axis(o: One, a: Axis) -> One
+    ensures { λ r. ⌜ r ≡ fields.setAxis o (On a) ⌝ }
 {
     let last = o.last;
     One {
@@ -85,7 +87,7 @@ fn with_axis(o: One, axis: AxisLock) -> One
         moved: o.moved,
         far: o.far,
         long_sent: o.long_sent,
-        axis,
+        axis: AxisLock::On(a),
         grabbed: o.grabbed,
         direct: o.direct,
         early: o.early,
@@ -175,9 +177,10 @@ fn move_from(prev: Point, p: Point) -> Outcome
     Outcome::Gives(Gesture::Move(prev, p))
 }
 
-fn axis_at(was: AxisLock, p0: Point, p: Point) -> AxisLock
-    ensures { λ r. ⌜ r ≡ axisAt was p0 p ⌝ }
+fn axis_at(o: One, p0: Point, p: Point) -> AxisLock
+    ensures { λ r. ⌜ r ≡ axisAt (o .axis) p0 p ⌝ }
 {
+    let was = o.axis;
     match was {
         AxisLock::On(a) => AxisLock::On(a),
         AxisLock::Free => panel::axis_along(
@@ -193,7 +196,7 @@ fn drag(axis: AxisLock, o: One, p0: Point, p: Point) -> OneStep
     match axis {
         AxisLock::On(a) => OneStep {
             out: Outcome::Gives(Gesture::Drag(p0, p, a)),
-            one: with_axis(o, AxisLock::On(a)),
+            one: with_axis(o, a),
         },
         AxisLock::Free => OneStep {
             out: Outcome::Quiet,
@@ -223,8 +226,7 @@ fn move_or_drag(o: One, hold: u16, prev: Point, p0: Point, p: Point) -> OneStep
         };
     }
     if may_drag(o, hold) {
-        let was = o.axis;
-        return drag(axis_at(was, p0, p), o, p0, p);
+        return drag(axis_at(o, p0, p), o, p0, p);
     }
     OneStep {
         out: Outcome::Quiet,

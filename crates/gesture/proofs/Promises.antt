@@ -12,7 +12,7 @@ use Rattle.gesture.specs.Trackers.{freshTracker}
 use Rattle.gesture.specs.States.{stateRule}
 use Rattle.gesture.specs.Reports.{reportStep}
 use Rattle.gesture.specs.Ticks.{tickStep}
-use Rattle.gesture.specs.Lines.{reportLine, tickLine, captureLine}
+use Rattle.gesture.specs.Lines.{isLocked, reportLine, tickLine, captureLine}
 use Rattle.gesture.specs.Captures.{takes, taken, wished, afterCaptureDirect, afterSetGrab}
 use Rattle.gesture.specs.Answers.{refused, answered, givenBy, pointsInUse, reported, ticked, captured, eventOf, tickOf, captureOf, captureDirectOf, rawNextOf, setGrabOf, grabOf}
 use Rattle.gesture.specs.declared.record.Tracker.{Tracker}
@@ -30,7 +30,7 @@ abbrev tells : ℕ → Given → Log → Tracker → Answer
 tells number gesture log t = record { refusal = number; gesture = gesture; log = log; tracker = t }
 
 module _ (t : Tracker) where
-  pub event-tells : (ev : Event) (now : ℕ) → eventOf t ev now ≡ if_then_else_ (stateRule t) (if_then_else_ (allOnPanel (pointsInUse ev)) (tells 0 (givenBy (reportStep t ev now .out)) (reportLine (reportStep t ev now .out) (t .one .axis) now) (reportStep t ev now .tracker)) (tells 2 Nothing Silent t)) (tells 1 Nothing Silent t)
+  pub event-tells : (ev : Event) (now : ℕ) → eventOf t ev now ≡ if_then_else_ (stateRule t) (if_then_else_ (allOnPanel (pointsInUse ev)) (tells 0 (givenBy (reportStep t ev now .out)) (reportLine (reportStep t ev now .out) (isLocked (t .one .axis)) now) (reportStep t ev now .tracker)) (tells 2 Nothing Silent t)) (tells 1 Nothing Silent t)
   unfolding eventOf reported answered refused
   event-tells ev now = refl
 

@@ -1,12 +1,12 @@
 -- The log's table of specs/Lines.antt, by gesture, is the one of specs/Codes.antt, by code number. Assumes nothing.
 use mathlib.Core.Path.{_≡_, refl}
+use mathlib.Core.Bool.{Bool}
 use Prim.Native.Nat.{ℕ}
 use Rattle.panel.specs.Tests as tests
 use Rattle.panel.specs.Tests.{_and_, _=?_}
-use Rattle.panel.specs.declared.axes.AxisLock.{AxisLock}
 use Rattle.fingers.specs.declared.gestures.Gesture.{Gesture}
 use Rattle.fingers.specs.declared.gestures.Gesture.the-variants.{Down, Tap, LongPress, Drag, Grab, Up, SwipeLeft, SwipeRight, SwipeUp, SwipeDown, Cancel, MultiSwipeDown, KeyDown, KeyUp, Move, Pinch, PinchEnd}
-use Rattle.gesture.specs.Lines.{gestureLine, isDrag, isLocked}
+use Rattle.gesture.specs.Lines.{gestureLine, isDrag}
 use Rattle.gesture.specs.Codes.{codedAs, codeOf, lineByCode, isLaterDrag}
 
 pub line-by-code : (g : Gesture) (now : ℕ) → gestureLine g now ≡ lineByCode (codeOf g .code) (codeOf g .number) (codeOf g .p) now
@@ -49,6 +49,6 @@ drag-by-code (Move prev p) = refl
 drag-by-code (Pinch a span0 span) = refl
 drag-by-code (PinchEnd released) = refl
 
-pub later-drag-by-code : (g : Gesture) (before : AxisLock) → _and_ (isDrag g) (isLocked before) ≡ isLaterDrag (codeOf g .code) before
+pub later-drag-by-code : (g : Gesture) (locked : Bool) → _and_ (isDrag g) locked ≡ isLaterDrag (codeOf g .code) locked
 unfolding isLaterDrag
-later-drag-by-code g before = rw (drag-by-code g)
+later-drag-by-code g locked = rw (drag-by-code g)

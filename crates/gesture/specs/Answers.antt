@@ -11,7 +11,6 @@ use Rattle.panel.specs.Points.{allOnPanel, firstPoints}
 use Rattle.panel.specs.Refusals.{numberOf}
 use Rattle.panel.specs.declared.points.Point.{Point}
 use Rattle.panel.specs.declared.points.Event.{Event}
-use Rattle.panel.specs.declared.axes.AxisLock.{AxisLock}
 use Rattle.panel.specs.declared.refusals.Refusal.{Refusal}
 use Rattle.panel.specs.declared.refusals.Refusal.the-variants.{State, Panel}
 use Rattle.fingers.specs.declared.gestures.Outcome.{Outcome}
@@ -19,7 +18,7 @@ use Rattle.fingers.specs.declared.gestures.Outcome.the-variants.{Quiet, Noted, 
 use Rattle.gesture.specs.States.{stateRule}
 use Rattle.gesture.specs.Reports.{reportStep}
 use Rattle.gesture.specs.Ticks.{tickStep}
-use Rattle.gesture.specs.Lines.{reportLine, tickLine, captureLine}
+use Rattle.gesture.specs.Lines.{isLocked, reportLine, tickLine, captureLine}
 use Rattle.gesture.specs.Captures.{takes, taken, wished, afterCaptureDirect, afterSetGrab}
 use Rattle.gesture.specs.declared.record.Tracker.{Tracker}
 use Rattle.gesture.specs.declared.record.Step.{Step}
@@ -46,12 +45,12 @@ givenBy (Gives g) = Gave g
 unfoldable pub pointsInUse : Event → List Point
 pointsInUse ev = if ev .points =? 1 then ev .p ∷ [] else firstPoints (ev .points) (ev .pts)
 
-unfoldable pub reported : Step → AxisLock → ℕ → Answer
-reported s before now = answered (givenBy (s .out)) (reportLine (s .out) before now) (s .tracker)
+unfoldable pub reported : Step → Bool → ℕ → Answer
+reported s locked now = answered (givenBy (s .out)) (reportLine (s .out) locked now) (s .tracker)
 
 unfoldable pub eventOf : Tracker → Event → ℕ → Answer
 eventOf t ev now =
-    if stateRule t then (if allOnPanel (pointsInUse ev) then reported (reportStep t ev now) (t .one .axis) now else refused Panel t)
+    if stateRule t then (if allOnPanel (pointsInUse ev) then reported (reportStep t ev now) (isLocked (t .one .axis)) now else refused Panel t)
     else refused State t
 
 -- The tick.

@@ -4,12 +4,11 @@ use Prim.Native.Nat.{ℕ}
 use mathlib.Core.Bool.{Bool}
 use Rattle.panel.specs.Tests.{if_then_else_, _and_, _=?_}
 use Rattle.panel.specs.declared.points.Point.{Point}
-use Rattle.panel.specs.declared.axes.AxisLock.{AxisLock}
 use Rattle.fingers.specs.declared.gestures.Gesture.{Gesture}
 use Rattle.fingers.specs.declared.gestures.Gesture.the-variants.{Down, Tap, LongPress, Drag, Grab, Up, SwipeLeft, SwipeRight, SwipeUp, SwipeDown, Cancel, MultiSwipeDown, KeyDown, KeyUp, Move, Pinch, PinchEnd}
 use Rattle.gesture.specs.Letters.{ascii-D, ascii-T, ascii-L, ascii-M, ascii-G, ascii-U, ascii-less, ascii-greater, ascii-caret, ascii-v, ascii-C, ascii-W, ascii-K, ascii-k, ascii-E, drag}
 use Rattle.gesture.specs.Trackers.{origin}
-use Rattle.gesture.specs.Lines.{line, axisNumber, bit, isLocked}
+use Rattle.gesture.specs.Lines.{line, axisNumber, bit}
 use Rattle.gesture.specs.declared.lines.Coded.{Coded}
 use Rattle.gesture.specs.declared.lines.Log.{Log}
 use Rattle.gesture.specs.declared.lines.Log.the-variants.{Silent}
@@ -57,5 +56,5 @@ lineByCode code number p now =
     else Silent
 
 -- a later Drag of a touch whose axis is locked
-unfoldable pub isLaterDrag : ℕ → AxisLock → Bool
-isLaterDrag code before = (code =? drag) and isLocked before
+unfoldable pub isLaterDrag : ℕ → Bool → Bool
+isLaterDrag code locked = (code =? drag) and locked

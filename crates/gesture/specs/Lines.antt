@@ -77,18 +77,18 @@ isDrag (Move prev p) = false
 isDrag (Pinch a span0 span) = false
 isDrag (PinchEnd released) = false
 
--- "a Drag only if no axis was locked before": the axis lock is the one before the call
-unfoldable pub reportGestureLine : Gesture → AxisLock → ℕ → Log
-reportGestureLine g before now = if isDrag g and isLocked before then Silent else gestureLine g now
+-- "a Drag only if no axis was locked before": locked is whether one was before the call
+unfoldable pub reportGestureLine : Gesture → Bool → ℕ → Log
+reportGestureLine g locked now = if isDrag g and locked then Silent else gestureLine g now
 
 -- "N, its note", and its point
 unfoldable pub noteLine : Note → ℕ → Log
 noteLine note now = line ascii-N (note .number) (note .p) now
 
-unfoldable pub reportLine : Outcome → AxisLock → ℕ → Log
-reportLine Quiet before now = Silent
-reportLine (Noted note) before now = noteLine note now
-reportLine (Gives g) before now = reportGestureLine g before now
+unfoldable pub reportLine : Outcome → Bool → ℕ → Log
+reportLine Quiet locked now = Silent
+reportLine (Noted note) locked now = noteLine note now
+reportLine (Gives g) locked now = reportGestureLine g locked now
 
 unfoldable pub tickLine : Outcome → ℕ → Log
 tickLine Quiet now = Silent

@@ -15,7 +15,6 @@ use crate::record::Tracker;
 use crate::reports;
 use crate::states;
 use crate::ticks;
-use panel::AxisLock;
 use panel::Event;
 use panel::Refusal;
 
@@ -31,14 +30,14 @@ fn points_ok(ev: Event) -> bool
     panel::all_on_panel(ev.points, pts)
 }
 
-fn report_answer(s: Step, before: AxisLock, now: u64) -> Answer
-    ensures { λ r. ⌜ r ≡ reported s before now ⌝ }
+fn report_answer(s: Step, locked: bool, now: u64) -> Answer
+    ensures { λ r. ⌜ r ≡ reported s locked now ⌝ }
 {
     let out = s.out;
     let t = s.tracker;
     answers::answered(
         answers::given_by(out),
-        lines::report_line(out, before, now),
+        lines::report_line(out, locked, now),
         t,
     )
 }
@@ -50,8 +49,8 @@ pub fn event(t: Tracker, ev: Event, now: u64) -> Answer
     if states::state_ok(t) {
         if points_ok(ev) {
             let one = t.one;
-            let before = one.axis;
-            return report_answer(reports::report_step(t, ev, now), before, now);
+            let locked = lines::is_locked(one);
+            return report_answer(reports::report_step(t, ev, now), locked, now);
         }
         return answers::refused(Refusal::Panel, t);
     }

@@ -6,6 +6,7 @@ ghost use Rattle.gesture.specs.Lines.{axisNumber, isLocked, gestureLine,
 ghost use Rattle.gesture.specs.Codes.{codedAs, codeOf, lineByCode, isLaterDrag};
 use fingers::Gesture;
 use fingers::Note;
+use fingers::One;
 use fingers::Outcome;
 use panel::Axis;
 use panel::AxisLock;
@@ -124,9 +125,12 @@ fn log_gesture(g: Gesture, now: u64) -> Log
     line_by_code(c.code, c.number, p, now)
 }
 
-fn is_locked(axis: AxisLock) -> bool
-    ensures { λ r. ⌜ r ≡ isLocked axis ⌝ }
+// Whether the axis of the touch is locked. The lock is looked at where it stands: two bytes handed on are one number
+// to the compiler, which it takes apart again at every use.
+pub(crate) fn is_locked(o: One) -> bool
+    ensures { λ r. ⌜ r ≡ isLocked (o .axis) ⌝ }
 {
+    let axis = o.axis;
     match axis {
         AxisLock::Free => false,
         AxisLock::On(_) => true,
@@ -134,20 +138,17 @@ fn is_locked(axis: AxisLock) -> bool
 }
 
 // Only the first Drag of a touch is logged.
-fn is_later_drag(code: u8, before: AxisLock) -> bool
-    ensures { λ r. ⌜ r ≡ isLaterDrag code before ⌝ }
+fn is_later_drag(code: u8, locked: bool) -> bool
+    ensures { λ r. ⌜ r ≡ isLaterDrag code locked ⌝ }
 {
-    if code == DRAG {
-        return is_locked(before);
-    }
-    false
+    code == DRAG && locked
 }
 
-fn report_gesture_line(g: Gesture, before: AxisLock, now: u64) -> Log
-    ensures { λ r. ⌜ r ≡ reportGestureLine g before now ⌝ }
+fn report_gesture_line(g: Gesture, locked: bool, now: u64) -> Log
+    ensures { λ r. ⌜ r ≡ reportGestureLine g locked now ⌝ }
 {
     let c = code_of(g);
-    if is_later_drag(c.code, before) {
+    if is_later_drag(c.code, locked) {
         return Log::Silent;
     }
     let p = c.p;
@@ -161,14 +162,14 @@ fn log_note(note: Note, now: u64) -> Log
     logged(b'N', note.number, p, now)
 }
 
-// The line of a report; the axis lock is the one before it.
-pub(crate) fn report_line(out: Outcome, before: AxisLock, now: u64) -> Log
-    ensures { λ r. ⌜ r ≡ reportLine out before now ⌝ }
+// The line of a report; whether an axis was locked is asked before it.
+pub(crate) fn report_line(out: Outcome, locked: bool, now: u64) -> Log
+    ensures { λ r. ⌜ r ≡ reportLine out locked now ⌝ }
 {
     match out {
         Outcome::Quiet => Log::Silent,
         Outcome::Noted(note) => log_note(note, now),
-        Outcome::Gives(g) => report_gesture_line(g, before, now),
+        Outcome::Gives(g) => report_gesture_line(g, locked, now),
     }
 }
 

@@ -11,6 +11,7 @@ use Rattle.fingers.specs.declared.gestures.Gesture.the-variants.{Down, Tap, Lon
 use Rattle.fingers.specs.declared.gestures.Outcome.the-variants.{Gives}
 use Rattle.fingers.specs.declared.keys.KeyStep.{KeyStep}
 use Rattle.gesture.proofs.Keeps.{event-kept, tick-kept, capture-kept, capture-direct-kept, raw-next-kept, set-grab-kept}
+use Rattle.gesture.specs.Lines.{isLocked}
 use Rattle.gesture.specs.Answers.{pointsInUse, answered, givenBy, reported, eventOf, ticked, tickOf, captured, captureOf, captureDirectOf, rawNextOf, setGrabOf}
 use Rattle.gesture.specs.Calls.{Call, report, tick, capture, captureDirect, rawNext, setGrabMs, answerOf}
 use Rattle.gesture.specs.Captures.{taken, wished, afterCaptureDirect, afterSetGrab}
@@ -293,7 +294,7 @@ module _ (t : Tracker) (s : Seen) (i : Together t s) where
 -- Any accepted call.
 
 module _ (t : Tracker) (s : Seen) (i : Together t s) where
-  pub event-is : (ev : Event) (now : ℕ) → allOnPanel (pointsInUse ev) ≡ true → eventOf t ev now ≡ reported (reportStep t ev now) (t .one .axis) now
+  pub event-is : (ev : Event) (now : ℕ) → allOnPanel (pointsInUse ev) ≡ true → eventOf t ev now ≡ reported (reportStep t ev now) (isLocked (t .one .axis)) now
   unfolding eventOf
   event-is ev now on = if-true _ _ _ (i .valid) ∙ if-true _ _ _ on
 

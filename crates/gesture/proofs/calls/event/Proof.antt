@@ -11,6 +11,9 @@ state-ok-requires c κs = search needs
 points-ok-requires : tie.Need-points-ok-requires
 points-ok-requires c κs = search needs
 
+is-locked-requires : tie.Need-is-locked-requires
+is-locked-requires c κs = search needs
+
 report-step-requires : tie.Need-report-step-requires
 report-step-requires c κs = search needs
 
@@ -19,7 +22,7 @@ report-answer-requires c κs = search needs
 
 returns : tie.Need-returns
 unfolding eventOf
-returns c = search (follow, ← c .report-answer .ensures, ← c .before .report-step .ensures, ← c .before .before .before .before .points-ok .ensures, ← c .before .before .before .before .before .before .state-ok .ensures)
+returns c = search (follow, ← c .report-answer .ensures, ← c .before .report-step .ensures, ← c .before .before .is-locked .ensures, ← c .before .before .before .before .before .points-ok .ensures, ← c .before .before .before .before .before .before .before .state-ok .ensures)
 
 refused-requires : tie.Need-refused-requires
 refused-requires c κs = search needs
@@ -41,6 +44,7 @@ event-spec =
     (tie.spec
     state-ok-requires
     points-ok-requires
+    is-locked-requires
     report-step-requires
     report-answer-requires
     returns

@@ -1,20 +1,16 @@
 -- `gesture::lines::is_later_drag` meets its contract. Assumes nothing.
 use Rattle.panel.proofs.Follow.{follow}
 use Rattle.gesture.specs.Codes.{isLaterDrag}
-use borrow.Author.Needs.{needs}
 use Rattle.gesture.proofs.lines.is_later_drag.Statement.{statement}
 use Rattle.gesture.proofs.lines.is_later_drag.Tie as tie
 
-is-locked-requires : tie.Need-is-locked-requires
-is-locked-requires c κs = search needs
-
 returns : tie.Need-returns
 unfolding isLaterDrag
-returns c = search (follow, ← c .is-locked .ensures)
+returns c = search follow
 
 returns-2 : tie.Need-returns-2
 unfolding isLaterDrag
 returns-2 c = search follow
 
 pub is-later-drag-spec : {M : Type 1} → statement M
-is-later-drag-spec = tie.close (tie.spec is-locked-requires returns returns-2)
+is-later-drag-spec = tie.close (tie.spec returns returns-2)
