@@ -61,10 +61,14 @@ fn seen(m: Multi, n: u8, c: Point, now: u64) -> Multi
         return multi_from(n, c, now);
     }
     if n == m.n {
-        let mut last = m;
-        last.c1 = c;
-        last.t1 = now;
-        return last;
+        let c0 = m.c0;
+        return Multi {
+            t0: m.t0,
+            n: m.n,
+            c0,
+            t1: now,
+            c1: c,
+        };
     }
     m
 }
