@@ -1,7 +1,9 @@
 // A report: one key change if there is any, else the fingers, by their count.
 ghost use mathlib.Core.Path.{_≡_};
+ghost use Rattle.panel.specs.Points.{firstPoints};
+ghost use Rattle.panel.specs.Centroids.{middle};
 ghost use Rattle.gesture.specs.Reports as rule;
-ghost use Rattle.gesture.specs.Reports.{upOutcome, endStored, allUp, isLastFinger, residualTouch, newTouch, touchDown, goesOn, oneFinger, twoStart, two, twoOf, moreStart, more, moreOf, fingersOf, keysThenFingers, reportStep};
+ghost use Rattle.gesture.specs.Reports.{upOutcome, endStored, allUp, isLastFinger, residualTouch, newTouch, touchDown, goesOn, oneFinger, twoStart, two, moreStart, more, finger, fingersOf, keysThenFingers, reportStep};
 use crate::record;
 use crate::record::MultiEnd;
 use crate::record::Step;
@@ -183,20 +185,20 @@ fn several(s: MultiStep, t: Tracker) -> Step
     }
 }
 
-fn two_of(t: Tracker, pts: [Point; MAX_POINTS], now: u64) -> Step
-    ensures { λ r. ⌜ r ≡ twoOf t pts now ⌝ }
+// The steps of several fingers take the touch alone and not the tracker: a call that is handed the whole record and
+// gives it back has it stored and fetched again for every report.
+fn two_of(touch: Touch, pts: [Point; MAX_POINTS], now: u64) -> MultiStep
+    ensures { λ r. ⌜ r ≡ two touch (finger 0 pts) (finger 1 pts) (middle (firstPoints 2 pts)) now ⌝ }
 {
-    let touch = t.touch;
     let p = pts[0];
     let q = pts[1];
-    several(two_at(touch, p, q, panel::middle_of(2, pts), now), t)
+    two_at(touch, p, q, panel::middle_of(2, pts), now)
 }
 
-fn more_of(t: Tracker, n: u8, pts: [Point; MAX_POINTS], now: u64) -> Step
-    ensures { λ r. ⌜ r ≡ moreOf t n pts now ⌝ }
+fn more_of(touch: Touch, n: u8, pts: [Point; MAX_POINTS], now: u64) -> MultiStep
+    ensures { λ r. ⌜ r ≡ more touch n (middle (firstPoints n pts)) now ⌝ }
 {
-    let touch = t.touch;
-    several(more_at(touch, n, panel::middle_of(n, pts), now), t)
+    more_at(touch, n, panel::middle_of(n, pts), now)
 }
 
 // The fingers of a report, by their count; a count over five means five.
@@ -210,9 +212,9 @@ fn by_count(t: Tracker, ev: Event, now: u64) -> Step
     match n {
         0 => all_up(t, now),
         1 => one_finger(touch, t, p, now),
-        2 => two_of(t, pts, now),
-        3..=5 => more_of(t, n, pts, now),
-        _ => more_of(t, MAX_POINTS as u8, pts, now),
+        2 => several(two_of(touch, pts, now), t),
+        3..=5 => several(more_of(touch, n, pts, now), t),
+        _ => several(more_of(touch, MAX_POINTS as u8, pts, now), t),
     }
 }
 

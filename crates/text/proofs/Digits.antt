@@ -134,19 +134,40 @@ module _ (l : List ℕ) (at v : ℕ) where
       })
 
 module _ (l : List ℕ) (at v : ℕ) where
-  three-are : 100 ≤ v → v < 1_000 → decimal v ≡ (v / ten / ten + digit0) ∷ (v / ten % ten + digit0) ∷ (v % ten + digit0) ∷ []
-  unfolding decimal
-  three-are g h =
-      digits-step 19 v (omega arith)
-      ∙ ap (λ (x : List ℕ). x ++ ((v % ten + digit0) ∷ [])) (two-are l at (v / ten) 17 (omega arith) (omega arith))
+  three-are : (k : ℕ) → 100 ≤ v → v < 1_000 → digitsBy (suc (suc (suc k))) v ≡ (v / ten / ten + digit0) ∷ (v / ten % ten + digit0) ∷ (v % ten + digit0) ∷ []
+  three-are k g h =
+      digits-step (suc (suc k)) v (omega arith)
+      ∙ ap (λ (x : List ℕ). x ++ ((v % ten + digit0) ∷ [])) (two-are l at (v / ten) k (omega arith) (omega arith))
 
   pub three-digits : 100 ≤ v → v < 1_000 → Written l at (decimal v) (at + 3) (set (set (set l at (v / ten / ten + digit0)) (at + 1) (v / ten % ten + digit0)) (at + 2) (v % ten + digit0))
+  unfolding decimal
   three-digits g h =
       let e : at + 2 ≡ suc (suc at) = omega arith in
-      rw (three-are g h)
+      rw (three-are 17 g h)
       (record {
         ends = omega arith;
         left =
             ap (λ (n : ℕ). set (set (set l at (v / ten / ten + digit0)) n (v / ten % ten + digit0)) (at + 2) (v % ten + digit0)) (add-one at)
             ∙ ap (λ (n : ℕ). set (set (set l at (v / ten / ten + digit0)) (suc at) (v / ten % ten + digit0)) n (v % ten + digit0)) e;
+      })
+
+module _ (l : List ℕ) (at v : ℕ) where
+  four-are : 1_000 ≤ v → v < 10_000 → decimal v ≡ (v / ten / ten / ten + digit0) ∷ (v / ten / ten % ten + digit0) ∷ (v / ten % ten + digit0) ∷ (v % ten + digit0) ∷ []
+  unfolding decimal
+  four-are g h =
+      digits-step 19 v (omega arith)
+      ∙ ap (λ (x : List ℕ). x ++ ((v % ten + digit0) ∷ [])) (three-are l at (v / ten) 16 (omega arith) (omega arith))
+
+  pub four-digits : 1_000 ≤ v → v < 10_000 → Written l at (decimal v) (at + 4) (set (set (set (set l at (v / ten / ten / ten + digit0)) (at + 1) (v / ten / ten % ten + digit0)) (at + 2) (v / ten % ten + digit0)) (at + 3) (v % ten + digit0))
+  four-digits g h =
+      let e : at + 2 ≡ suc (suc at) = omega arith in
+      let f : at + 3 ≡ suc (suc (suc at)) = omega arith in
+      let first = set l at (v / ten / ten / ten + digit0) in
+      rw (four-are g h)
+      (record {
+        ends = omega arith;
+        left =
+            ap (λ (n : ℕ). set (set (set first n (v / ten / ten % ten + digit0)) (at + 2) (v / ten % ten + digit0)) (at + 3) (v % ten + digit0)) (add-one at)
+            ∙ ap (λ (n : ℕ). set (set (set first (suc at) (v / ten / ten % ten + digit0)) n (v / ten % ten + digit0)) (at + 3) (v % ten + digit0)) e
+            ∙ ap (λ (n : ℕ). set (set (set first (suc at) (v / ten / ten % ten + digit0)) (suc (suc at)) (v / ten % ten + digit0)) n (v % ten + digit0)) f;
       })

@@ -26,7 +26,7 @@ fn digits(out: &mut [u8], at: usize, v: u64, left: u64) -> usize
     a + 1
 }
 
-// A number. Most have three digits or fewer, and these are written straight away.
+// A number. Most have four digits or fewer, and these are written straight away.
 pub(crate) fn number(out: &mut [u8], at: usize, v: u64) -> usize
     requires { ⌜ (v < smallEnd) × (at + smallDigits ≤ length (now out)) ⌝ }
     ensures { λ r. ⌜ Written (now (out .entry)) at (decimal v) r (now (out .exit)) ⌝ }
@@ -47,6 +47,13 @@ pub(crate) fn number(out: &mut [u8], at: usize, v: u64) -> usize
         out[at + 1] = (v / 10 % 10 + 48) as u8;
         out[at + 2] = (v % 10 + 48) as u8;
         return at + 3;
+    }
+    if v < 10000 {
+        out[at] = (v / 10 / 10 / 10 + 48) as u8;
+        out[at + 1] = (v / 10 / 10 % 10 + 48) as u8;
+        out[at + 2] = (v / 10 % 10 + 48) as u8;
+        out[at + 3] = (v % 10 + 48) as u8;
+        return at + 4;
     }
     digits(out, at, v, 20)
 }

@@ -108,6 +108,11 @@ fn number_at(s: &[u8], at: usize, most: u64) -> Value
     if s.len() <= at {
         return stop(Refusal::Cut, s.len());
     }
+    // Most numbers are one group, and these are read straight away.
+    let b = s[at];
+    if b < 128 {
+        return judge(at, most, Grouped::Whole(wide(b), at + 1));
+    }
     judge(at, most, groups(s, at, 10))
 }
 

@@ -1,6 +1,5 @@
 -- `gesture::reports::more_of` meets its contract. Assumes nothing.
 use Rattle.panel.proofs.Follow.{follow}
-use Rattle.gesture.specs.Reports.{moreOf}
 use borrow.Author.Needs.{needs}
 use Rattle.gesture.proofs.reports.more_of.Statement.{statement}
 use Rattle.gesture.proofs.reports.more_of.Tie as tie
@@ -11,12 +10,8 @@ middle-of-requires c κs = search needs
 more-at-requires : tie.Need-more-at-requires
 more-at-requires c κs = search needs
 
-several-requires : tie.Need-several-requires
-several-requires c κs = search needs
-
 returns : tie.Need-returns
-unfolding moreOf
-returns c = search (follow, ← c .several .ensures, ← c .before .more-at .ensures, ← c .before .before .middle-of .ensures)
+returns c = search (follow, ← c .more-at .ensures, ← c .before .middle-of .ensures)
 
 pub more-of-spec : {M : Type 1} → statement M
-more-of-spec = tie.close (tie.spec middle-of-requires more-at-requires several-requires returns)
+more-of-spec = tie.close (tie.spec middle-of-requires more-at-requires returns)

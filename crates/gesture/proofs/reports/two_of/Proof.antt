@@ -1,6 +1,5 @@
 -- `gesture::reports::two_of` meets its contract. Assumes nothing.
 use Rattle.panel.proofs.Follow.{follow}
-use Rattle.gesture.specs.Reports.{twoOf}
 use borrow.Author.Needs.{needs}
 use Rattle.gesture.proofs.reports.two_of.Statement.{statement}
 use Rattle.gesture.proofs.reports.two_of.Tie as tie
@@ -17,20 +16,8 @@ middle-of-requires c κs = search needs
 two-at-requires : tie.Need-two-at-requires
 two-at-requires c κs = search needs
 
-several-requires : tie.Need-several-requires
-several-requires c κs = search needs
-
 returns : tie.Need-returns
-unfolding twoOf
-returns c = search (follow, ← c .several .ensures, ← c .before .two-at .ensures, ← c .before .before .middle-of .ensures)
+returns c = search (follow, ← c .two-at .ensures, ← c .before .middle-of .ensures)
 
 pub two-of-spec : {M : Type 1} → statement M
-two-of-spec =
-    tie.close
-    (tie.spec
-    array-copy-out-p
-    array-copy-out-q
-    middle-of-requires
-    two-at-requires
-    several-requires
-    returns)
+two-of-spec = tie.close (tie.spec array-copy-out-p array-copy-out-q middle-of-requires two-at-requires returns)
