@@ -1,7 +1,7 @@
 // The map of a point through a calibration, in sixteenths of a pixel.
 ghost use mathlib.Core.Path.{_≡_};
-ghost use Rattle.calmap.specs.Wide.{in16};
 ghost use mathlib.Core.Bool.{true};
+ghost use Rattle.calmap.specs.Wide.{in16};
 ghost use Rattle.calmap.specs.Maps.{line, lineFits, applyOf};
 ghost use Rattle.calmap.specs.Checked.{lineOf, bothFit, mapFits, spotOf, fewPixels, fewSteps, slight};
 use crate::checked;
