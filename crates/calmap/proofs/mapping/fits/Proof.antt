@@ -1,5 +1,5 @@
 -- `calmap::mapping::fits` meets its contract. Assumes nothing.
-use mathlib.Core.Path.{_≡_, sym, ap, _∙_}
+use mathlib.Core.Path.{sym, ap, _∙_}
 use borrow.Author.Needs.{needs}
 use Rattle.calmap.specs.Checked.{bothFit, mapFits, fewPixels}
 use Rattle.calmap.proofs.Signed.{plain}

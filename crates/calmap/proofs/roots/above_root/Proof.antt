@@ -1,6 +1,6 @@
 -- v of m digits is below 2 ^ m, and m and the leading zeros make 64 (lib.Count).
 use Prim.Native.Nat.{ℕ, _-_, _*_, _/_, _^_, _≤_, _<_}
-use mathlib.Core.Path.{_≡_, sym, subst}
+use mathlib.Core.Path.{sym, subst}
 use native.Mathlib.Omega.{arith}
 use borrow.Author.Needs.{needs}
 use lib.Count.{leadingZeros, leading-le, leading-length}
