@@ -7,16 +7,16 @@ use native.Mathlib.Omega.{arith}
 use lib.Signed.{mag}
 use lib.IntN.{ℤ, pos, _+ℤ_, _*ℤ_}
 use borrow.Author.Tests.{lt-ltb, le-ltb}
-use Rattle.panel.proofs.Follow.{if-true, if-false, and-true}
+use Rattle.panel.proofs.Follow.{if-true, if-false}
 use Rattle.panel.specs.Sizes.{width, height}
 use Rattle.panel.specs.Tests.{if_then_else_, _and_}
 use Rattle.panel.specs.declared.points.Point.{Point}
 use Rattle.panel.specs.declared.refusals.Refusal.the-variants as Refusal
-use Rattle.calmap.specs.Checked.{narrowOf, plusOf, lineOf, nudgeOf, spotOf, placedOf}
-use Rattle.calmap.specs.Maps.{line, lineFits, spot, applyOf}
+use Rattle.calmap.specs.Checked.{narrowOf, plusOf, lineOf, nudgeOf, bothFit, mapFits, spotOf, placedOf}
+use Rattle.calmap.specs.Maps.{line, lineFits, applyOf}
 use Rattle.calmap.specs.Screening.{nudge, nudgeFits, moved, screenOf}
-use Rattle.calmap.specs.Sizes.{end32, one, half, twelve}
-use Rattle.calmap.specs.Wide.{in32, in16, down}
+use Rattle.calmap.specs.Sizes.{end32, one, half}
+use Rattle.calmap.specs.Wide.{in32}
 use Rattle.calmap.specs.declared.checked.Narrow.{Narrow}
 use Rattle.calmap.specs.declared.checked.Narrow.the-variants.{In, Wide}
 use Rattle.calmap.specs.declared.mapping.ApplyAnswer.the-variants as Apply
@@ -92,15 +92,22 @@ pub nudge-chain : (p q k : Q16) (x y : ℤ) → plusOf (plusOf (plusOf (narrowOf
 unfolding nudgeOf nudgeFits nudge
 nudge-chain p q k x y = simp (narrow-held, plus-held, plus-in, and-assoc)
 
-spot-held : (a b : Bool) (u v : ℤ) → spotOf (held a u) (held b v) ≡ if_then_else_ (_and_ a b) (Apply.Answered (spot (down twelve u) (down twelve v))) (Apply.Refused Refusal.Wide)
-unfolding spotOf if_then_else_ _and_
-spot-held true true u v = refl
-spot-held true false u v = refl
-spot-held false b u v = refl
+-- whether there is a number
+pub line-told-in : (v : ℤ) (p q k : Q16) (x y t : ℤ) → lineOf v p q k x y ≡ In t → lineFits v p q k x y ≡ true
+unfolding lineOf
+line-told-in v p q k x y t e = held-fits _ _ t e
 
-pub apply-chain : (c : Cal) (x y : ℤ) → in16 x ≡ true → in16 y ≡ true → spotOf (lineOf x (c .c0) (c .c1) (c .c2) x y) (lineOf y (c .c3) (c .c4) (c .c5) x y) ≡ applyOf c x y
-unfolding lineOf applyOf
-apply-chain c x y ex ey = rw (spot-held, and-true _ _ ex, and-true _ _ ey)
+pub line-told-wide : (v : ℤ) (p q k : Q16) (x y : ℤ) → lineOf v p q k x y ≡ Wide → lineFits v p q k x y ≡ false
+unfolding lineOf
+line-told-wide v p q k x y e = held-leaves _ _ e
+
+pub applied : (c : Cal) (x y : ℤ) → mapFits c x y ≡ true → Apply.Answered (spotOf c x y) ≡ applyOf c x y
+unfolding mapFits bothFit spotOf applyOf
+applied c x y h = sym (if-true _ _ _ h)
+
+pub not-applied : (c : Cal) (x y : ℤ) → mapFits c x y ≡ false → Apply.Refused Refusal.Wide ≡ applyOf c x y
+unfolding mapFits bothFit applyOf
+not-applied c x y h = sym (if-false _ _ _ h)
 
 placed-held : (p : Point) (a b : Bool) (u v : ℤ) → placedOf p (held a u) (held b v) ≡ if_then_else_ (_and_ a b) (Screen.Answered (record { x = moved (width - 1) (p .x) u; y = moved (height - 1) (p .y) v })) (Screen.Refused Refusal.Wide)
 unfolding placedOf if_then_else_ _and_

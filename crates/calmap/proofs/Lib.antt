@@ -7,6 +7,7 @@ pub mod Holding
 pub mod Promises
 mod Signed
 mod Chains
+mod Slight
 mod Floors
 mod Rooted
 mod Newton

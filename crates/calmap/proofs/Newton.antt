@@ -1,10 +1,12 @@
 -- Newton's step for the root of v from a guess x above 0: the next guess, (x + v / x) / 2, is never below the root, and
 -- a guess that the next one does not go below is the root. Assumes nothing.
-use Prim.Native.Nat.{ℕ, zero, suc, _+_, _*_, _/_, _^_, _≤_, _<_}
-use mathlib.Core.Path.{_≡_, refl, subst}
-use native.Mathlib.Nat.{le-trans, le-of-eq, le-of-lt, lt-suc-self, zero-lt-suc, not-suc-le-zero, lt-of-not-le, le-dest, le-intro, add-comm, add-assoc, add-left-comm, mul-comm, mul-add, add-mul, suc-mul, mul-le-mul-left, mul-le-mul-right, div-lt-iff-lt-mul, le-div-iff-mul-le, div-mul-le-self, mul-one}
+use Prim.Native.Nat.{ℕ, zero, suc, _+_, _-_, _*_, _/_, _%_, _^_, _≤_, _<_}
+use mathlib.Core.Path.{_≡_, refl, subst, _∙_}
+use native.Mathlib.Nat.{le-trans, le-of-eq, le-of-lt, lt-of-lt-of-le, lt-suc-self, zero-lt-suc, not-suc-le-zero, lt-of-not-le, le-dest, le-intro, add-comm, add-assoc, add-left-comm, mul-comm, mul-add, add-mul, suc-mul, mul-le-mul-left, mul-le-mul-right, div-lt-iff-lt-mul, le-div-iff-mul-le, div-mul-le-self, mul-one, one-mul}
 use native.Mathlib.Decide.{decLe}
 use native.Mathlib.Omega.{arith}
+use lib.Dec.{lit<}
+use lib.Pow.{pow-mono, pow-add, shl-exact}
 use Rattle.calmap.specs.Roots.{IsRoot}
 
 -- twice a product is at most the two squares
@@ -35,8 +37,30 @@ step-above v x h =
 pub stop-below : (v x y : ℕ) → 0 < x → y ≡ (x + v / x) / 2 → x ≤ y → x * x ≤ v
 stop-below v x y h e l = le-div-iff-mul-le h .0 (omega arith)
 
--- the first guess is v itself
-pub own-square : (v : ℕ) → v < (v + 1) * (v + 1)
+-- The first guess: a power of two of half the digits of v, rounded up. Its square is above v.
+
+-- `1 << s` at 64 bits
+pub power-of-two : (s : ℕ) → s ≤ 32 → 1 * 2 ^ s % 2 ^ 64 ≡ 2 ^ s
+power-of-two s h = shl-exact {a = 1} 1 s 64 (lit< tt) (omega arith) ∙ one-mul (2 ^ s)
+
+pub half-square : (v z m : ℕ) → z + m ≡ 64 → v < 2 ^ m → v < 2 ^ ((65 - z) / 2) * 2 ^ ((65 - z) / 2)
+half-square v z m e h =
+    let s = (65 - z) / 2 in
+    let twice : m ≤ s + s = omega arith in
+    lt-of-lt-of-le h (le-trans (pow-mono twice) (le-of-eq (pow-add 2 s s)))
+
+pub square-pos : (v x : ℕ) → v < x * x → 0 < x
+square-pos v zero h = absurd (not-suc-le-zero h)
+square-pos v (suc x) h = zero-lt-suc x
+
+-- and the quotient by it is below it
+pub quotient-below : (v x : ℕ) → v < x * x → v / x < x
+quotient-below v x h = div-lt-iff-lt-mul (square-pos v x h) .1 h
+
+pub square-above : (v x : ℕ) → v < x * x → v < (x + 1) * (x + 1)
+square-above v x h = omega (arith, add-mul x 1 (x + 1), mul-add x x 1)
+
+own-square : (v : ℕ) → v < (v + 1) * (v + 1)
 own-square v = omega (arith, add-mul v 1 (v + 1))
 
 pub small-root : (v : ℕ) → v < 2 → IsRoot v v

@@ -12,7 +12,7 @@ use mir.Syntax.{w16, w32, w64}
 use mir.Val.{toZ, ofZ, SFits}
 use mir.ValLaws.{toZ-ofZ}
 use mir.Facts.{sfits-widen}
-use borrow.Author.Tests.{lt-ltb, le-leb, lt-leb, ltb-false}
+use borrow.Author.Tests.{lt-ltb, le-leb, lt-leb, ltb-true, ltb-false}
 use Rattle.calmap.specs.Sizes.{end32}
 use Rattle.calmap.specs.Wide.{in32}
 
@@ -91,6 +91,10 @@ module _ (low : ℕ) where
 pub in32-yes : (z : ℤ) → mag z < end32 → in32 z ≡ true
 unfolding in32
 in32-yes z h = lt-ltb _ _ h
+
+pub in32-fits : (z : ℤ) → in32 z ≡ true → SFits w32 z
+unfolding in32
+in32-fits z h = record { sfits = ltb-true _ _ h }
 
 -- A square.
 

@@ -1,7 +1,9 @@
 // Arithmetic within i32 that says where it does not fit: each product, sum and difference is formed at
-// 64 bits, where it always fits, and is then held against i32.
+// 64 bits, where it always fits, and is then held against i32. Where one is known to fit, it is formed at once.
+ghost use mathlib.Core.Bool.{true};
 ghost use mathlib.Core.Path.{_≡_};
 ghost use lib.IntN.{_+ℤ_, _-ℤ_, _*ℤ_};
+ghost use Rattle.calmap.specs.Wide.{in32};
 ghost use Rattle.calmap.specs.Checked.{narrowOf, plusOf};
 ghost use Rattle.calmap.specs.declared.checked.Narrow.the-variants.{In};
 use crate::units::Q16;
@@ -43,6 +45,21 @@ fn sub(a: i32, b: i32) -> Narrow
     ensures { λ r. ⌜ r ≡ narrowOf (a -ℤ b) ⌝ }
 {
     fit32((a as i64) - (b as i64))
+}
+
+// The product and the sum where they are known to fit.
+pub(crate) fn product(a: i32, b: i32) -> i32
+    requires { ⌜ in32 (a *ℤ b) ≡ true ⌝ }
+    ensures { λ r. ⌜ r ≡ a *ℤ b ⌝ }
+{
+    a * b
+}
+
+pub(crate) fn sum(a: i32, b: i32) -> i32
+    requires { ⌜ in32 (a +ℤ b) ≡ true ⌝ }
+    ensures { λ r. ⌜ r ≡ a +ℤ b ⌝ }
+{
+    a + b
 }
 
 // So many steps for each pixel of x.

@@ -8,7 +8,6 @@ ghost use Rattle.calmap.specs.Checks.{mild, scaleHolds, near, stays, all
 use crate::checked;
 use crate::checked::Narrow;
 use crate::mapping;
-use crate::mapping::ApplyAnswer;
 use crate::pixels;
 use crate::units::Cal;
 use crate::units::MAX_TAPS;
@@ -82,12 +81,13 @@ fn is_near(s: Sixteenths, v: u16) -> bool
 fn is_kept(c: Cal, p: Point) -> bool
     ensures { λ r. ⌜ r ≡ stays c p ⌝ }
 {
-    let ApplyAnswer::Answered(s) = mapping::apply16(c, pixels::of_u16(p.x), pixels::of_u16(p.y))
-    else {
-        return false;
-    };
-    if is_near(s.0, p.x) {
-        return is_near(s.1, p.y);
+    let x = pixels::of_u16(p.x);
+    let y = pixels::of_u16(p.y);
+    if mapping::fits(c, x, y) {
+        let s = mapping::spot_at(c, x, y);
+        if is_near(s.0, p.x) {
+            return is_near(s.1, p.y);
+        }
     }
     false
 }

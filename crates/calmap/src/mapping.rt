@@ -1,8 +1,9 @@
 // The map of a point through a calibration, in sixteenths of a pixel.
 ghost use mathlib.Core.Path.{_≡_};
+ghost use mathlib.Core.Bool.{true};
 ghost use Rattle.calmap.specs.Wide.{in16};
-ghost use Rattle.calmap.specs.Maps.{applyOf};
-ghost use Rattle.calmap.specs.Checked.{lineOf, spotOf};
+ghost use Rattle.calmap.specs.Maps.{line, lineFits, applyOf};
+ghost use Rattle.calmap.specs.Checked.{lineOf, bothFit, mapFits, spotOf, fewPixels, fewSteps, slight};
 use crate::checked;
 use crate::checked::Narrow;
 use crate::units::Cal;
@@ -20,6 +21,12 @@ pub enum ApplyAnswer {
 
 // Steps in a whole: a coefficient of 1.
 const ONE: i32 = 65536;
+
+// Pixels, and steps of a shift, each way. With fewer of them, and with coefficients of i16, the products and k are
+// below 2^29 and a little, 2^28, 2^28 and 2^29, and no sum of them leaves i32.
+const NEAR: i32 = 8192;
+
+const SHORT: i32 = 536870912;
 
 // Whether v is one of i16.
 fn in_i16(v: i32) -> bool
@@ -40,29 +47,103 @@ fn line(v: i32, p: Q16, q: Q16, k: Q16, x: i32, y: i32) -> Narrow
     checked::plus(b, checked::steps(k))
 }
 
-// Two sums in steps as a place: down by twelve places each, toward minus infinity.
-fn spot_at(fx: Narrow, fy: Narrow) -> ApplyAnswer
-    ensures { λ r. ⌜ r ≡ spotOf fx fy ⌝ }
+// Whether none of its products and partial sums leaves i32.
+fn line_fits(v: i32, p: Q16, q: Q16, k: Q16, x: i32, y: i32) -> bool
+    ensures { λ r. ⌜ r ≡ lineFits v p q k x y ⌝ }
 {
-    let Narrow::In(u) = fx else {
-        return ApplyAnswer::Refused(Refusal::Wide);
-    };
-    let Narrow::In(v) = fy else {
-        return ApplyAnswer::Refused(Refusal::Wide);
-    };
-    ApplyAnswer::Answered(Spot(Sixteenths(u >> 12), Sixteenths(v >> 12)))
+    match line(v, p, q, k, x, y) {
+        Narrow::In(_) => true,
+        Narrow::Wide => false,
+    }
+}
+
+// Whether (x, y) has a place through a to f, looked at product by product and sum by sum.
+fn both_fit(a: Q16, b: Q16, c: Q16, d: Q16, e: Q16, f: Q16, x: i32, y: i32) -> bool
+    ensures { λ r. ⌜ r ≡ bothFit a b c d e f x y ⌝ }
+{
+    if in_i16(x) {
+        if in_i16(y) {
+            if line_fits(x, a, b, c, x, y) {
+                return line_fits(y, d, e, f, x, y);
+            }
+        }
+    }
+    false
+}
+
+// Whether v is on a panel, or not far off it.
+fn few_pixels(v: i32) -> bool
+    ensures { λ r. ⌜ r ≡ fewPixels v ⌝ }
+{
+    if v < -NEAR {
+        return false;
+    }
+    v < NEAR
+}
+
+// Whether a shift is not far.
+fn few_steps(q: Q16) -> bool
+    ensures { λ r. ⌜ r ≡ fewSteps q ⌝ }
+{
+    let v = q.0;
+    if v < -SHORT {
+        return false;
+    }
+    v < SHORT
+}
+
+// Whether a calibration is slight: scales and cross terms less than a half off, and shifts not far. What `check`
+// passes at a target is.
+fn is_slight(c: Cal) -> bool
+    ensures { λ r. ⌜ r ≡ slight c ⌝ }
+{
+    let scales = in_i16(c.c0.0) & in_i16(c.c1.0) & in_i16(c.c3.0) & in_i16(c.c4.0);
+    scales & few_steps(c.c2) & few_steps(c.c5)
+}
+
+// Whether (x, y) has a place through c: none of the products and partial sums leaves i32. Few pixels through a
+// slight calibration have, without a look at them. `both_fit` has two places here, since with one the compiler
+// would put it into this function, and this function no longer into those that call it.
+pub(crate) fn fits(c: Cal, x: i32, y: i32) -> bool
+    ensures { λ r. ⌜ r ≡ mapFits c x y ⌝ }
+{
+    if is_slight(c) {
+        if few_pixels(x) {
+            if few_pixels(y) {
+                return true;
+            }
+        }
+        return both_fit(c.c0, c.c1, c.c2, c.c3, c.c4, c.c5, x, y);
+    }
+    both_fit(c.c0, c.c1, c.c2, c.c3, c.c4, c.c5, x, y)
+}
+
+// v·65536 + p·x + q·y + k where it fits.
+fn line_at(v: i32, p: Q16, q: Q16, k: Q16, x: i32, y: i32) -> i32
+    requires { ⌜ lineFits v p q k x y ≡ true ⌝ }
+    ensures { λ r. ⌜ r ≡ line v p q k x y ⌝ }
+{
+    let a = checked::sum(checked::product(v, ONE), checked::product(p.0, x));
+    let b = checked::sum(a, checked::product(q.0, y));
+    checked::sum(b, k.0)
+}
+
+// The place of (x, y) through c: down by twelve places each, toward minus infinity.
+pub(crate) fn spot_at(c: Cal, x: i32, y: i32) -> Spot
+    requires { ⌜ mapFits c x y ≡ true ⌝ }
+    ensures { λ r. ⌜ r ≡ spotOf c x y ⌝ }
+{
+    let u = line_at(x, c.c0, c.c1, c.c2, x, y);
+    let v = line_at(y, c.c3, c.c4, c.c5, x, y);
+    Spot(Sixteenths(u >> 12), Sixteenths(v >> 12))
 }
 
 // The point (x, y) through c, in sixteenths of a pixel, held to nothing.
 pub fn apply16(c: Cal, x: i32, y: i32) -> ApplyAnswer
     ensures { λ r. ⌜ r ≡ applyOf c x y ⌝ }
 {
-    if in_i16(x) {
-        if in_i16(y) {
-            let fx = line(x, c.c0, c.c1, c.c2, x, y);
-            let fy = line(y, c.c3, c.c4, c.c5, x, y);
-            return spot_at(fx, fy);
-        }
+    if fits(c, x, y) {
+        return ApplyAnswer::Answered(spot_at(c, x, y));
     }
     ApplyAnswer::Refused(Refusal::Wide)
 }

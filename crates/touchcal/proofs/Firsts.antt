@@ -26,7 +26,9 @@ use Rattle.calmap.specs.declared.limits.CheckAnswer.{CheckAnswer}
 use Rattle.calmap.specs.declared.limits.CheckAnswer.the-variants as Check
 use Rattle.touchcal.specs.Solutions.{solvedOf}
 use Rattle.touchcal.specs.Fits.{fitted, fitOf}
-use Rattle.touchcal.specs.Held.{fitFirst, fitHeld}
+use Rattle.touchcal.specs.Held.{foundOf, fitFirst, fitHeld}
+use Rattle.touchcal.specs.declared.solving.Solved.{Solved}
+use Rattle.touchcal.specs.declared.solving.Solved.the-variants.{Is}
 use Rattle.touchcal.specs.declared.fitting.FitAnswer.{FitAnswer}
 use Rattle.touchcal.specs.declared.fitting.FitAnswer.the-variants.{Refused}
 use Rattle.touchcal.proofs.Choices.{neither-left, neither-right}
@@ -92,6 +94,12 @@ module _ (n : ℕ) (ps : List Pair) (m : ℕ) (ts : List Point) where
     pub check-first : (c d : Cal) (v : Verdict) → checkFirst d m ts ≡ Check.Answered v → checkFirst c m ts ≡ checkOf c (take m ts)
     unfolding checkFirst
     check-first c d v e = if-false _ _ _ (not-refused _ _ v e)
+
+-- ---- the calibration that is judged
+
+pub found-is : (s : Solved) (c : Cal) → s ≡ Is c → foundOf s ≡ c
+unfolding foundOf
+found-is s c e = rw e
 
 -- ---- what is held of lists, as calmap holds them, gives what the lists give
 

@@ -9,6 +9,7 @@ pub mod Before
 pub mod Firsts
 pub mod Cases
 mod Cuts
+mod Wholes
 mod Fractions
 mod Folds
 mod Choices

@@ -7,12 +7,21 @@ use Rattle.panel.specs.Tests.{if_then_else_, _or_, _<?_}
 use Rattle.panel.specs.declared.points.Point.{Point}
 use Rattle.panel.specs.declared.refusals.Refusal.the-variants.{Long}
 use Rattle.calmap.specs.Sizes.{longest}
+use Rattle.calmap.specs.declared.units.Cal.{Cal}
 use Rattle.calmap.specs.declared.units.Pair.{Pair}
 use Rattle.calmap.specs.declared.held.Pairs.{Pairs}
 use Rattle.calmap.specs.declared.held.Points.{Points}
+use Rattle.touchcal.specs.Floats.{identity}
 use Rattle.touchcal.specs.Fits.{fitOf}
+use Rattle.touchcal.specs.declared.solving.Solved.{Solved}
+use Rattle.touchcal.specs.declared.solving.Solved.the-variants as Solved
 use Rattle.touchcal.specs.declared.fitting.FitAnswer.{FitAnswer}
 use Rattle.touchcal.specs.declared.fitting.FitAnswer.the-variants.{Refused}
+
+-- the calibration that was found, or none
+unfoldable pub foundOf : Solved → Cal
+foundOf (Solved.Is c) = c
+foundOf (Solved.Not f) = identity
 
 -- the first n pairs and the first m targets, of arrays that hold 64
 unfoldable pub fitFirst : ℕ → List Pair → ℕ → List Point → FitAnswer

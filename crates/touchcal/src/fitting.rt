@@ -2,7 +2,7 @@
 // and how far they were without it, and the verdict.
 ghost use mathlib.Core.Path.{_≡_};
 ghost use Rattle.touchcal.specs.Fits.{judgedBy, fitWith, weighed};
-ghost use Rattle.touchcal.specs.Held.{fitFirst, fitHeld};
+ghost use Rattle.touchcal.specs.Held.{foundOf, fitFirst, fitHeld};
 use crate::floats;
 use crate::solving;
 use crate::solving::Solved;
@@ -86,8 +86,18 @@ fn weigh(c: Cal, after: ResidAnswer, before: ResidAnswer, check: CheckAnswer) ->
     }
 }
 
-// The fit of the first n pairs, judged over the first m targets. What check refuses it refuses for
-// any calibration, so that none at all tells whether the targets can be judged.
+// The calibration that was found, or none at all.
+fn found(s: Solved) -> Cal
+    ensures { λ r. ⌜ r ≡ foundOf s ⌝ }
+{
+    match s {
+        Solved::Is(c) => c,
+        Solved::Not(_) => floats::no_cal(),
+    }
+}
+
+// The fit of the first n pairs, judged over the first m targets. What check refuses it refuses for any
+// calibration, so that it is asked once, before anything else is refused, whether one was found or not.
 pub fn fit_of(pairs: [Pair; MAX_TAPS], n: usize, targets: [Point; MAX_TAPS], m: usize) -> FitAnswer
     ensures { λ r. ⌜ r ≡ fitFirst n pairs m targets ⌝ }
 {
@@ -95,15 +105,17 @@ pub fn fit_of(pairs: [Pair; MAX_TAPS], n: usize, targets: [Point; MAX_TAPS], m: 
     if MAX_TAPS < n {
         return FitAnswer::Refused(Refusal::Long);
     }
-    if let CheckAnswer::Refused(r) = calmap::check_of(none, targets, m) {
+    let s = solving::solve(pairs, n);
+    let check = calmap::check_of(found(s), targets, m);
+    if let CheckAnswer::Refused(r) = check {
         return FitAnswer::Refused(r);
     }
-    let Solved::Is(c) = solving::solve(pairs, n) else {
+    let Solved::Is(c) = s else {
         return FitAnswer::Refused(Refusal::NoFit);
     };
     let after = calmap::resid_of(c, pairs, n);
     let before = calmap::resid_of(none, pairs, n);
-    weigh(c, after, before, calmap::check_of(c, targets, m))
+    weigh(c, after, before, check)
 }
 
 // The fit of what is held of lent lists.

@@ -1,6 +1,11 @@
 // Coefficients as floats and as Q16 steps: what a technician reads and writes, and what is kept.
 // Each operation is the Rust's, in its order, and rounds once.
 ghost use mathlib.Core.Path.{_≡_};
+ghost use lib.Dec.{T};
+ghost use lib.IntN.{pos};
+ghost use lib.Ieee.{lt, le};
+ghost use Rattle.touchcal.specs.Binary32.{cut};
+ghost use Rattle.touchcal.specs.Sizes.{half32, least32, most32};
 ghost use Rattle.touchcal.specs.Floats.{halfAway, q16Of, outOf, offIdentity, stepsOf, toF32Of, fromF32Of, identity};
 use calmap::Cal;
 use calmap::Q16;
@@ -11,6 +16,9 @@ const ONE: f32 = 65536.0;
 
 // Steps from here on, either way, are refused, a little before the end of i32.
 const TOO_MANY: f32 = 2.0e9;
+
+// The first of a float's 24 digits, by its weight.
+const FIRST: u32 = 8388608;
 
 // What q16 answers.
 pub enum Q16Answer {
@@ -34,26 +42,38 @@ pub struct Coefs {
     pub f: f32,
 }
 
-// s and a half, away from 0.
-fn half_away(s: f32) -> f32
-    ensures { λ r. ⌜ r ≡ halfAway s ⌝ }
+// t without its fraction, from its bits: t is `digits`·2^(exponent - 150), of 24 digits, the first of which the bits
+// leave out. From a half to TOO_MANY the exponent is 126 to 157, so that with eight places more, 256, the shift is
+// down for each of them.
+fn whole(t: f32) -> u64
+    requires { ⌜ T (le half32 t) × T (le t most32) ⌝ }
+    ensures { λ r. ⌜ pos r ≡ cut t ⌝ }
 {
-    if s < 0.0 {
-        return s - 0.5;
-    }
-    s + 0.5
+    let bits = f32::to_bits(t);
+    let exponent = bits / FIRST;
+    let digits = FIRST + bits % FIRST;
+    ((digits * 256) as u64) >> (158 - exponent)
 }
 
-// v in steps, to the nearest. NaN and what is too large are refused, so that the cut is always within
-// i32: std's truncating cast does it at 64 bits, where its range is proved, and loses nothing after.
+// s and a half, away from 0, without its fraction. Rounding does not look at the sign, so that -s gives the same below 0.
+fn nearest(s: f32) -> i32
+    requires { ⌜ T (lt least32 s) × T (lt s most32) ⌝ }
+    ensures { λ r. ⌜ r ≡ cut (halfAway s) ⌝ }
+{
+    if s < 0.0 {
+        return -(whole(-s + 0.5) as i32);
+    }
+    whole(s + 0.5) as i32
+}
+
+// v in steps, to the nearest. NaN and what is too large are refused, so that the cut is always within i32.
 pub fn q16(v: f32) -> Q16Answer
     ensures { λ r. ⌜ r ≡ q16Of v ⌝ }
 {
     let s = v * ONE;
     if s > -TOO_MANY {
         if s < TOO_MANY {
-            let t = half_away(s);
-            return Q16Answer::Answered(Q16(std::num::truncating_f32_to_i64(t) as i32));
+            return Q16Answer::Answered(Q16(nearest(s)));
         }
     }
     Q16Answer::Refused(Refusal::Huge)

@@ -1,9 +1,11 @@
 -- `touchcal::fitting::fit_of` meets its contract. Assumes nothing.
-use mathlib.Core.Path.{sym, _∙_}
+use mathlib.Core.Path.{sym, ap, _∙_}
 use native.Mathlib.Omega.{arith}
-use Rattle.touchcal.specs.Floats.{identity}
-use Rattle.touchcal.proofs.Firsts.{fit-long, fit-refused, fit-goes-on, resid-first, check-first}
 use borrow.Author.Needs.{needs}
+use Rattle.calmap.specs.Checks.{checkFirst}
+use Rattle.calmap.specs.declared.units.Cal.{Cal}
+use Rattle.touchcal.specs.Floats.{identity}
+use Rattle.touchcal.proofs.Firsts.{fit-long, fit-refused, fit-goes-on, resid-first, check-first, found-is}
 use Rattle.touchcal.proofs.fitting.fit_of.Statement.{statement}
 use Rattle.touchcal.proofs.fitting.fit_of.Tie as tie
 
@@ -15,37 +17,41 @@ returns c =
     let a = c .before .before .args in
     sym (fit-long (a .n) (a .pairs) (a .m) (a .targets) (omega arith))
 
+solve-requires : tie.Need-solve-requires
+solve-requires c κs = search needs
+
+found-requires : tie.Need-found-requires
+found-requires c κs = search needs
+
 check-of-requires : tie.Need-check-of-requires
 check-of-requires c κs = search needs
 
-enum-known-r : tie.Need-enum-known-r
-enum-known-r c = search needs
+enum-known-check : tie.Need-enum-known-check
+enum-known-check c = search needs
 
 returns-2 : tie.Need-returns-2
 returns-2 c =
     let k = c .before .before .before in
-    let a = k .before .before .before .args in
-    let refused = sym (k .check-of .ensures) ∙ c .before .r .given .1 in
+    let a = k .before .before .before .before .before .args in
+    let refused = sym (k .check-of .ensures) ∙ c .before .check .given .1 in
     sym (fit-refused (a .n) (a .pairs) (a .m) (a .targets) (omega arith) _ _ refused)
 
 enum-told : tie.Need-enum-told
 enum-told c = search needs
 
-solve-requires : tie.Need-solve-requires
-solve-requires c κs = search needs
-
-enum-known-c : tie.Need-enum-known-c
-enum-known-c c = search needs
+enum-known-s : tie.Need-enum-known-s
+enum-known-s c = search needs
 
 enum-told-2 : tie.Need-enum-told-2
 enum-told-2 c = search needs
 
 returns-3 : tie.Need-returns-3
 returns-3 c =
-    let s = c .before .before in
-    let k = s .before .before .before in
-    let a = k .before .before .before .args in
-    let judged = sym (k .check-of .ensures) ∙ s .before .enum-told .given .1 in
+    let e = c .before .before in
+    let k = e .before .before in
+    let s = k .before .before in
+    let a = s .before .before .before .args in
+    let judged = sym (k .check-of .ensures) ∙ e .enum-told .given .1 in
     rw (fit-goes-on (a .n) (a .pairs) (a .m) (a .targets) (omega arith) _ _ judged, ← s .solve .ensures, c .enum-told2 .given .1)
 
 resid-of-requires : tie.Need-resid-of-requires
@@ -54,33 +60,33 @@ resid-of-requires c κs = search needs
 resid-of-requires-2 : tie.Need-resid-of-requires-2
 resid-of-requires-2 c κs = search needs
 
-check-of-requires-2 : tie.Need-check-of-requires-2
-check-of-requires-2 c κs = search needs
-
 weigh-requires : tie.Need-weigh-requires
 weigh-requires c κs = search needs
 
 returns-4 : tie.Need-returns-4
 returns-4 c =
-    let r = c .before .before .before in
+    let r = c .before .before in
     let is = r .before .before in
-    let s = is .before .before in
-    let k = s .before .before .before in
-    let none = k .before .before in
+    let e = is .before .before in
+    let k = e .before .before in
+    let s = k .before .before in
+    let none = s .before .before in
     let a = none .before .args in
-    let judged = sym (k .check-of .ensures) ∙ s .before .enum-told .given .1 in
+    let cal = is .s .given .0 .0 in
+    let judged = sym (k .check-of .ensures) ∙ e .enum-told .given .1 in
     let first = resid-first (a .n) (a .pairs) (a .m) (a .targets) (omega arith) in
-    let checked = check-first (a .n) (a .pairs) (a .m) (a .targets) (omega arith) (is .c .given .0 .0) _ _ judged in
+    let same = k .before .found .ensures ∙ found-is _ cal (is .s .given .1) in
+    let checked = ap (λ (d : Cal). checkFirst d (a .m) (a .targets)) same ∙ check-first (a .n) (a .pairs) (a .m) (a .targets) (omega arith) cal _ _ judged in
     rw (
       fit-goes-on (a .n) (a .pairs) (a .m) (a .targets) (omega arith) _ _ judged,
       ← s .solve .ensures,
-      is .c .given .1,
-      ← first (is .c .given .0 .0),
+      is .s .given .1,
+      ← first cal,
       ← first identity,
       ← checked,
       c .weigh .ensures,
-      c .before .check-of2 .ensures,
-      c .before .before .resid-of2 .ensures,
+      ← k .check-of .ensures,
+      c .before .resid-of2 .ensures,
       r .resid-of .ensures,
       none .no-cal .ensures,
     )
@@ -91,16 +97,16 @@ fit-of-spec =
     (tie.spec
     no-cal-requires
     returns
+    solve-requires
+    found-requires
     check-of-requires
-    enum-known-r
+    enum-known-check
     returns-2
     enum-told
-    solve-requires
-    enum-known-c
+    enum-known-s
     enum-told-2
     returns-3
     resid-of-requires
     resid-of-requires-2
-    check-of-requires-2
     weigh-requires
     returns-4)
