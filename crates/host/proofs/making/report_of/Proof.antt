@@ -1,8 +1,8 @@
--- `host::calls::report_of` meets its contract. Assumes nothing.
+-- `host::making::report_of` meets its contract. Assumes nothing.
 use mathlib.Core.Path.{refl}
 use Rattle.host.specs.Hosts.{reportOf}
-use Rattle.host.proofs.calls.report_of.Statement.{statement}
-use Rattle.host.proofs.calls.report_of.Tie as tie
+use Rattle.host.proofs.making.report_of.Statement.{statement}
+use Rattle.host.proofs.making.report_of.Tie as tie
 
 returns : tie.Need-returns
 unfolding reportOf

@@ -1,8 +1,8 @@
--- `host::calls::finish` meets its contract. Assumes nothing.
+-- `host::making::finish` meets its contract. Assumes nothing.
 use Rattle.host.proofs.Hosting.{finish-answered, finish-refused}
 use borrow.Author.Needs.{needs}
-use Rattle.host.proofs.calls.finish.Statement.{statement}
-use Rattle.host.proofs.calls.finish.Tie as tie
+use Rattle.host.proofs.making.finish.Statement.{statement}
+use Rattle.host.proofs.making.finish.Tie as tie
 
 numbers-of-requires : tie.Need-numbers-of-requires
 numbers-of-requires c κs = search needs
