@@ -2,6 +2,7 @@
 // a refusal number, or 0; the numbers of the answer go into an array that the caller lends. docs/IMAGE.md has both.
 mod calibration;
 mod calls;
+mod making;
 mod numbers;
 
 pub use calibration::touch_apply16;

@@ -1,13 +1,14 @@
 -- Numbers of one, two and eight bytes, stored and read byte by byte. Assumes nothing.
-use Prim.Native.Nat.{ℕ, zero, suc, _+_, _*_, _%_, _/_, _<_}
+use Prim.Native.Nat.{ℕ, zero, suc, _+_, _*_, _%_, _/_, _≤_, _<_}
 use mathlib.Core.Path.{_≡_, refl, sym, _∙_, ap}
 use mathlib.Core.List.{List}
 use native.Mathlib.Nat.{mod-eq-of-lt}
 use native.Mathlib.Numerals.{add-one}
 use native.Mathlib.Omega.{arith}
-use lib.ListN.{getD, set}
+use lib.ListN.{length, getD, set}
 use lib.Seq.{sets}
 use Rattle.image.specs.Rows.{bytesOf}
+use Rattle.image.specs.Image.{imageBytes}
 use Rattle.image.specs.Reading.{numberAt}
 
 -- Places past one another.
@@ -29,6 +30,14 @@ six at = omega arith
 
 seven : (at : ℕ) → at + 7 ≡ suc (suc (suc (suc (suc (suc (suc at))))))
 seven at = omega arith
+
+-- The places of a number are within an area of the image's length.
+
+pub room : (area : List ℕ) (at k w : ℕ) → (length area ≡ imageBytes) × (at + w ≤ imageBytes) → k < w → at + k < length area
+room area at k w h less =
+    let long = h .0 in
+    let fits = h .1 in
+    omega (arith, long, fits, less)
 
 module _ (area : List ℕ) (at : ℕ) where
   pub stored-1 : (v : ℕ) → v < 256 → set area at v ≡ sets area at (bytesOf 1 v)

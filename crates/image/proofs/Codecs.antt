@@ -1,26 +1,27 @@
 -- When decoding answers and when it refuses, and what storing leaves. Assumes nothing.
 use Prim.Native.Nat.{ℕ}
-use mathlib.Core.Path.{_≡_, refl, sym, _∙_, ap, subst}
+use mathlib.Core.Path.{_≡_, refl, sym, _∙_, ap}
 use mathlib.Core.Bool.{Bool, true, false, true≢false}
-use mathlib.Core.List.{List, [], _∷_, _++_, append-nil}
-use lib.ListN.{length, getD, take, drop}
-use lib.Seq.{take-length, drop-length}
+use mathlib.Core.List.{List, [], _∷_}
+use lib.ListN.{length}
 use borrow.Author.Tests.{eqb-true, eq-eqb, ne-eqb}
 use Rattle.panel.specs.Refusals.{numberOf}
+use Rattle.panel.specs.declared.refusals.Refusal.{Refusal}
 use Rattle.panel.specs.declared.refusals.Refusal.the-variants.{State}
-use Rattle.panel.proofs.Follow.{if-true, if-false, and-true, and-false}
+use Rattle.panel.proofs.Follow.{if-true, if-false, and-true, and-false, if-know}
 use Rattle.panel.proofs.Laws.{and-left, and-right}
 use Rattle.gesture.specs.States.{stateRule}
 use Rattle.gesture.specs.declared.record.Tracker.{Tracker}
 use Rattle.image.specs.Image.{imageOf, imageBytes}
 use Rattle.image.specs.Reading.{trackerAt}
-use Rattle.image.specs.Typed.{Byte, Bytes}
-use Rattle.image.specs.Words.{wordsDiffer}
+use Rattle.image.specs.Typed.{Bytes}
+use Rattle.image.specs.Checked.{imageChecked}
+use Rattle.image.specs.Finding.{foundOf}
 use Rattle.image.specs.Codec.{same, isImage, decodeOf, stored, storeOf, encodeOf}
 use Rattle.image.specs.declared.codec.DecodeAnswer.{DecodeAnswer}
 use Rattle.image.specs.declared.codec.DecodeAnswer.the-variants.{Answered, Refused}
 use Rattle.image.proofs.Whole.{length-image}
-use Rattle.image.proofs.Wordwise.{words-equal, words-self, image-bytes}
+use Rattle.image.proofs.Exactly.{image-passes, image-again}
 
 -- The same bytes.
 
@@ -50,10 +51,6 @@ module _ (area : List ℕ) where
   unfolding decodeOf isImage
   decode-image e v = if-true _ _ _ (and-true _ _ (ap (λ (l : List ℕ). same l area) e ∙ same-self area) ∙ v)
 
-  decode-broken : stateRule (trackerAt area) ≡ false → imageOf (trackerAt area) ≡ area → decodeOf area ≡ Refused State
-  unfolding decodeOf isImage
-  decode-broken v e = if-false _ _ _ (and-true _ _ (ap (λ (l : List ℕ). same l area) e ∙ same-self area) ∙ v)
-
   pub decode-other : (imageOf (trackerAt area) ≡ area → ⊥) → decodeOf area ≡ Refused State
   unfolding decodeOf isImage
   decode-other differ = if-false _ _ _ (and-false _ _ (same-differ _ _ differ))
@@ -61,41 +58,73 @@ module _ (area : List ℕ) where
   pub decode-length : (length area ≡ imageBytes → ⊥) → decodeOf area ≡ Refused State
   decode-length differ = decode-other (λ e. differ (sym (ap length e) ∙ length-image (trackerAt area)))
 
--- The same, from the words of the area and of its tracker's image.
+-- The same, from what the code looked at.
 
-module _ (area : List ℕ) (t : Tracker) (again : List ℕ) (is : t ≡ trackerAt area) (image : again ≡ imageOf t) where
-  own : again ≡ imageOf (trackerAt area)
-  own = image ∙ ap imageOf is
+module _ (area : List ℕ) (long : length area ≡ imageBytes) (bytes : Bytes area) where
+  pub found-answers : (t : Tracker) → t ≡ trackerAt area → imageChecked area ≡ true → Answered t ≡ foundOf area
+  unfolding foundOf isImage
+  found-answers t is passes = ap Answered is ∙ sym (if-true _ _ _ (ap (λ (l : List ℕ). same l area) (image-again area bytes long passes) ∙ same-self area))
 
-  pub decode-differs : wordsDiffer again area ≡ true → Refused State ≡ decodeOf area
-  decode-differs differ = sym (decode-other area (λ e. true≢false (sym differ ∙ ap (λ (l : List ℕ). wordsDiffer l area) (own ∙ e) ∙ words-self area)))
+  pub found-fails : imageChecked area ≡ false → Refused State ≡ foundOf area
+  unfolding foundOf isImage
+  found-fails fails = sym (if-false _ _ _ (same-differ _ _ (λ e. true≢false (sym (image-passes (trackerAt area)) ∙ ap imageChecked e ∙ fails))))
 
-  module _ (long : length area ≡ imageBytes) (bytes : Bytes area) (alike : wordsDiffer again area ≡ false) where
-    image-again : imageOf (trackerAt area) ≡ area
-    image-again = words-equal _ area (image-bytes (trackerAt area)) bytes (length-image (trackerAt area)) long (ap (λ (l : List ℕ). wordsDiffer l area) (sym own) ∙ alike)
+pub found-length : (area : List ℕ) → (length area ≡ imageBytes → ⊥) → Refused State ≡ foundOf area
+unfolding foundOf isImage
+found-length area differ = sym (if-false _ _ _ (same-differ _ _ (λ e. differ (sym (ap length e) ∙ length-image (trackerAt area)))))
 
-    pub decode-answers : stateRule t ≡ true → Answered t ≡ decodeOf area
-    decode-answers kept = ap Answered is ∙ sym (decode-image area image-again (ap stateRule (sym is) ∙ kept))
+-- Decoding, from what was found.
+
+is-answered : DecodeAnswer → Bool
+is-answered (Answered t) = true
+is-answered (Refused why) = false
+
+the-tracker : Tracker → DecodeAnswer → Tracker
+the-tracker other (Answered t) = t
+the-tracker other (Refused why) = other
+
+module _ (area : List ℕ) (t : Tracker) where
+  abbrev Holds : DecodeAnswer → Type 0
+  Holds d = Answered t ≡ d → (isImage area ≡ true) × (t ≡ trackerAt area)
+
+  found-holds : Answered t ≡ foundOf area → (isImage area ≡ true) × (t ≡ trackerAt area)
+  unfolding foundOf is-answered the-tracker
+  found-holds = if-know Holds _ (Answered (trackerAt area)) (Refused State) (λ yes e. (yes, ap (the-tracker t) e)) (λ other e. absurd (true≢false (ap is-answered e)))
+
+  module _ (is : Answered t ≡ foundOf area) where
+    pub found-long : length area ≡ imageBytes
+    unfolding isImage
+    found-long = sym (ap length (same-equal _ _ (found-holds is .0))) ∙ length-image (trackerAt area)
+
+    pub decode-keeps : stateRule t ≡ true → Answered t ≡ decodeOf area
+    unfolding decodeOf
+    decode-keeps kept =
+        let h = found-holds is in
+        ap Answered (h .1) ∙ sym (if-true _ _ _ (and-true _ _ (h .0) ∙ ap stateRule (sym (h .1)) ∙ kept))
 
     pub decode-breaks : stateRule t ≡ false → Refused State ≡ decodeOf area
-    decode-breaks broken = sym (decode-broken area (ap stateRule (sym is) ∙ broken) image-again)
+    unfolding decodeOf
+    decode-breaks broken =
+        let h = found-holds is in
+        sym (if-false _ _ _ (and-true _ _ (h .0) ∙ ap stateRule (sym (h .1)) ∙ broken))
 
--- A copy of the whole.
+module _ (area : List ℕ) (why : Refusal) where
+  abbrev Fails : DecodeAnswer → Type 0
+  Fails d = Refused why ≡ d → Refused why ≡ decodeOf area
 
-pub copied : (l m : List ℕ) → length l ≡ length m → take (length l) l ++ drop (length l) m ≡ l
-copied l m e = (λ i. take-length l i ++ (ap (λ (n : ℕ). drop n m) e ∙ drop-length m) i) ∙ append-nil l
-
-pub bytes-of-copy : (l m : List ℕ) → l ≡ m → Bytes m → Bytes l
-bytes-of-copy l m e h k = subst (λ (x : List ℕ). Byte (getD x k 0)) (sym e) (h k)
+  pub decode-fails : Refused why ≡ foundOf area → Refused why ≡ decodeOf area
+  unfolding foundOf decodeOf is-answered
+  decode-fails =
+      if-know Fails _ (Answered (trackerAt area)) (Refused State)
+      (λ yes e. absurd (true≢false (sym (ap is-answered e))))
+      (λ other e. e ∙ sym (if-false _ _ _ (and-false _ _ other)))
 
 -- Storing.
 
 module _ (t : Tracker) (area : List ℕ) where
-  pub store-done : (image after : List ℕ) → length area ≡ imageBytes → image ≡ imageOf t → after ≡ take (length image) image ++ drop (length image) area → stored 0 after ≡ storeOf t area
+  pub store-done : (after : List ℕ) → length area ≡ imageBytes → after ≡ imageOf t → stored 0 after ≡ storeOf t area
   unfolding storeOf
-  store-done image after long e h =
-      let bytes = h ∙ copied image area (ap length e ∙ length-image t ∙ sym long) ∙ e in
-      ap (λ (l : List ℕ). stored 0 l) bytes ∙ sym (if-true _ _ _ (eq-eqb _ _ long))
+  store-done after long e = ap (λ (l : List ℕ). stored 0 l) e ∙ sym (if-true _ _ _ (eq-eqb _ _ long))
 
   pub store-refused : (n : ℕ) → n ≡ numberOf State → (length area ≡ imageBytes → ⊥) → stored n area ≡ storeOf t area
   unfolding storeOf

@@ -7,8 +7,8 @@ use native.Mathlib.Nat.{add-zero, pow-suc, div-add-mod, div-lt-iff-lt-mul}
 use native.Mathlib.Omega.{arith}
 use lib.Dec.{lit<}
 use lib.ListN.{length, getD, take, drop, length-append}
-use lib.Seq.{length-take-le, sets, length-sets, sets-eq, take-at, take-length, getD-at}
-use Rattle.image.specs.Rows.{Row, bytesOf, laid}
+use lib.Seq.{length-take-le, sets, length-sets, sets-eq, take-at, take-length, getD-at, drop-cons, drop-length}
+use Rattle.image.specs.Rows.{Row, row, bytesOf, laid}
 use Rattle.image.specs.Puts.{puts}
 use Rattle.image.specs.Reading.{numberAt}
 
@@ -112,3 +112,37 @@ number-fits area byte at (suc w) =
     let here = byte at in
     let later = number-fits area byte (suc at) w in
     rw pow-suc (omega (arith, here, later))
+
+-- A number's bytes are those that it was read from.
+
+low-byte : (b n : ℕ) → b < 256 → (b + 256 * n) % 256 ≡ b
+low-byte b n h = omega (arith, h)
+
+next-bytes : (b n : ℕ) → b < 256 → (b + 256 * n) / 256 ≡ n
+next-bytes b n h = omega (arith, h)
+
+-- an area as a table of given widths
+abbrev pub read : List ℕ → List ℕ → ℕ → List Row
+read area [] at = []
+read area (w ∷ ws) at = row w (numberAt area at w) ∷ read area ws (at + w)
+
+module _ (area : List ℕ) (bytes : (k : ℕ) → getD area k 0 < 256) where
+  bytes-back : (w at : ℕ) (rest : List ℕ) → at + w ≤ length area → rest ≡ drop (at + w) area → bytesOf w (numberAt area at w) ++ rest ≡ drop at area
+  unfolding bytesOf numberAt
+  bytes-back zero at rest h e =
+      let place : at + 0 ≡ at = omega arith in
+      e ∙ ap (λ (k : ℕ). drop k area) place
+  bytes-back (suc w) at rest h e =
+      let n = numberAt area (suc at) w in
+      let b = getD area at 0 in
+      let more : at < length area = omega (arith, h) in
+      let place : at + suc w ≡ suc at + w = omega arith in
+      let ih = bytes-back w (suc at) rest (omega (arith, h)) (e ∙ ap (λ (k : ℕ). drop k area) place) in
+      (λ i. low-byte b n (bytes at) i ∷ (bytesOf w (next-bytes b n (bytes at) i) ++ rest)) ∙ ap (λ (l : List ℕ). b ∷ l) ih ∙ sym (drop-cons area at 0 more)
+
+  pub read-laid : (ws : List ℕ) (at : ℕ) → at + total (read area ws at) ≡ length area → laid (read area ws at) ≡ drop at area
+  unfolding laid total
+  read-laid [] at e =
+      let place : at ≡ length area = omega (arith, e) in
+      sym (ap (λ (k : ℕ). drop k area) place ∙ drop-length area)
+  read-laid (w ∷ ws) at e = bytes-back w at (laid (read area ws (at + w))) (omega (arith, e)) (read-laid ws (at + w) (omega (arith, e)))

@@ -26,6 +26,7 @@ use Rattle.image.specs.Image.{imageBytes, touchNumber, startOf, sinceOf,
 use Rattle.image.specs.Reading.{trackerAt}
 use Rattle.image.specs.Typed.{Bytes, Typed}
 use Rattle.image.specs.Codec.{isImage, decodeOf, toldDecode, Stored, stored, storeOf, encodeOf}
+use Rattle.image.specs.Finding.{foundOf, grabIn}
 use Rattle.image.specs.declared.codec.DecodeAnswer.{DecodeAnswer}
 use Rattle.image.specs.declared.codec.DecodeAnswer.the-variants.{Answered, Refused}
 use Rattle.image.proofs.Back.{tracker-back, tracker-typed}
@@ -120,6 +121,12 @@ encode-refused-unaltered t area = if-all (Unaltered area) _ (store-refused-unalt
 
 pub decode-unique : (area : List ℕ) {r s : DecodeAnswer} → r ≡ decodeOf area → s ≡ decodeOf area → r ≡ s
 decode-unique area = one-answer
+
+pub found-unique : (area : List ℕ) {r s : DecodeAnswer} → r ≡ foundOf area → s ≡ foundOf area → r ≡ s
+found-unique area = one-answer
+
+pub grab-unique : (area : List ℕ) {r s : ℕ} → r ≡ grabIn area → s ≡ grabIn area → r ≡ s
+grab-unique area = one-answer
 
 pub image-unique : (t : Tracker) {r s : List ℕ} → r ≡ imageOf t → s ≡ imageOf t → r ≡ s
 image-unique t = one-answer

@@ -1,10 +1,11 @@
--- The four parts of a tracker, put one after another into a blank area, are its image; how long that is; and the number of
--- an axis. Assumes nothing.
+-- The four parts of a tracker, put one after another into a blank area, are its image; how long that is; the number of an
+-- axis; and a copy of a whole area. Assumes nothing.
 use Prim.Native.Nat.{ℕ, _≤_}
 use mathlib.Core.Path.{_≡_, refl, _∙_, ap}
-use mathlib.Core.List.{List}
+use mathlib.Core.List.{List, _++_, append-nil}
 use native.Mathlib.Omega.{arith}
-use lib.ListN.{length}
+use lib.ListN.{length, take, drop}
+use lib.Seq.{take-length, drop-length}
 use Rattle.panel.specs.declared.axes.Axis.{Axis}
 use Rattle.panel.specs.declared.axes.Axis.the-variants.{H, «V»}
 use Rattle.gesture.specs.Lines.{axisNumber}
@@ -39,3 +40,8 @@ pub axis-small : (a : Axis) → axisNumber a ≤ 1
 unfolding axisNumber
 axis-small H = omega arith
 axis-small «V» = omega arith
+
+-- A copy of the whole.
+
+pub copied : (l m : List ℕ) → length l ≡ length m → take (length l) l ++ drop (length l) m ≡ l
+copied l m e = (λ i. take-length l i ++ (ap (λ (n : ℕ). drop n m) e ∙ drop-length m) i) ∙ append-nil l

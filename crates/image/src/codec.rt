@@ -1,13 +1,14 @@
 // An area of bytes as a tracker, and back. An area is taken exactly if it is the image of a tracker that keeps the
-// state rule: its tracker is read, and the tracker's own image must be the area again.
+// state rule: its bytes are looked at first, and then the tracker that is read from them.
 ghost use mathlib.Core.Path.{_≡_};
-ghost use lib.ListN.{length};
-ghost use Rattle.image.specs.Image.{imageBytes};
-ghost use Rattle.image.specs.Typed.{Bytes};
+ghost use Rattle.gesture.specs.Trackers.{freshTracker};
 ghost use Rattle.image.specs.Codec.{decodeOf, stored, storeOf, encodeOf};
+ghost use Rattle.image.specs.Finding.{foundOf, grabIn};
+use crate::checks;
+use crate::fields;
+use crate::places;
 use crate::places::IMAGE_BYTES;
 use crate::reading;
-use crate::words;
 use crate::writing;
 use gesture::Tracker;
 use panel::Refusal;
@@ -17,28 +18,15 @@ pub enum DecodeAnswer {
     Refused(Refusal),
 }
 
-// A copy of an area that has the image's length. That its elements are bytes is said as well: who takes the copy does
-// not know it by itself.
-fn held(area: &[u8]) -> [u8; IMAGE_BYTES]
-    requires { ⌜ length (now area) ≡ imageBytes ⌝ }
-    ensures { λ r. ⌜ (r ≡ now (area .entry)) × Bytes r ⌝ }
+// The tracker whose image the area is, also one that breaks the state rule.
+pub fn found(area: &[u8]) -> DecodeAnswer
+    ensures { λ r. ⌜ r ≡ foundOf (now (area .entry)) ⌝ }
 {
-    let mut image = [0u8; IMAGE_BYTES];
-    bytes::copy(area, &mut image);
-    image
-}
-
-fn decode_held(image: [u8; IMAGE_BYTES]) -> DecodeAnswer
-    requires { ⌜ (length image ≡ imageBytes) × Bytes image ⌝ }
-    ensures { λ r. ⌜ r ≡ decodeOf image ⌝ }
-{
-    let t = reading::tracker_at(&image);
-    let again = writing::image_of(t);
-    if words::images_differ(&again, &image) {
+    if area.len() == IMAGE_BYTES {
+        if checks::is_image(area) {
+            return DecodeAnswer::Answered(reading::tracker_at(area));
+        }
         return DecodeAnswer::Refused(Refusal::State);
-    }
-    if gesture::state_ok(t) {
-        return DecodeAnswer::Answered(t);
     }
     DecodeAnswer::Refused(Refusal::State)
 }
@@ -47,11 +35,26 @@ fn decode_held(image: [u8; IMAGE_BYTES]) -> DecodeAnswer
 pub fn decode(area: &[u8]) -> DecodeAnswer
     ensures { λ r. ⌜ r ≡ decodeOf (now (area .entry)) ⌝ }
 {
-    if area.len() == IMAGE_BYTES {
-        let image = held(area);
-        return decode_held(image);
+    let d = found(area);
+    match d {
+        DecodeAnswer::Answered(t) => {
+            if gesture::state_ok(t) {
+                return DecodeAnswer::Answered(t);
+            }
+            DecodeAnswer::Refused(Refusal::State)
+        }
+        DecodeAnswer::Refused(why) => DecodeAnswer::Refused(why),
     }
-    DecodeAnswer::Refused(Refusal::State)
+}
+
+// The grab time in an area of the image's length; 0 in any other.
+pub fn grab_ms_in(area: &[u8]) -> u16
+    ensures { λ r. ⌜ r ≡ grabIn (now (area .entry)) ⌝ }
+{
+    if area.len() != IMAGE_BYTES {
+        return 0;
+    }
+    fields::get2(area, places::GRAB)
 }
 
 // Writes the image of a tracker, also of one that breaks the state rule, into an area of the image's length.
@@ -62,8 +65,18 @@ pub fn store(t: Tracker, area: &mut [u8]) -> u8
     if area.len() != IMAGE_BYTES {
         return panel::number(Refusal::State);
     }
-    let image = writing::image_of(t);
-    bytes::copy(&image, area);
+    writing::put_tracker(area, t);
+    0
+}
+
+// Writes a fresh tracker's image.
+pub fn store_fresh(area: &mut [u8]) -> u8
+    ensures { λ r. ⌜ stored r (now (area .exit)) ≡ storeOf freshTracker (now (area .entry)) ⌝ }
+{
+    if area.len() != IMAGE_BYTES {
+        return panel::number(Refusal::State);
+    }
+    writing::blank(area);
     0
 }
 

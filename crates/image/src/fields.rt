@@ -2,12 +2,12 @@
 // literal where these are called, so that the bytes of a number are loaded and stored at once.
 ghost use mathlib.Core.Path.{_≡_};
 ghost use Prim.Native.Nat.{_+_, _*_, _≤_, _<_, _/_, _%_};
+ghost use lib.ListN.{length};
 ghost use lib.Seq.{sets};
 ghost use Rattle.image.specs.Rows.{bytesOf};
 ghost use Rattle.image.specs.Image.{imageBytes, pointRows};
 ghost use Rattle.image.specs.Puts.{puts};
 ghost use Rattle.image.specs.Reading.{numberAt, pointAt};
-use crate::places::IMAGE_BYTES;
 use panel::Point;
 
 // A byte in a wider number. That it is less than 256 is said as well: a caller that takes it out of an image does not
@@ -24,23 +24,23 @@ fn half(x: u8) -> u16
     x as u16
 }
 
-pub(crate) fn put1(image: &mut [u8; IMAGE_BYTES], at: usize, v: u8)
-    requires { ⌜ at + 1 ≤ imageBytes ⌝ }
+pub(crate) fn put1(image: &mut [u8], at: usize, v: u8)
+    requires { ⌜ (length (now image) ≡ imageBytes) × (at + 1 ≤ imageBytes) ⌝ }
     ensures { λ _. ⌜ now (image .exit) ≡ sets (now (image .entry)) at (bytesOf 1 v) ⌝ }
 {
     image[at] = v;
 }
 
-pub(crate) fn put2(image: &mut [u8; IMAGE_BYTES], at: usize, v: u16)
-    requires { ⌜ at + 2 ≤ imageBytes ⌝ }
+pub(crate) fn put2(image: &mut [u8], at: usize, v: u16)
+    requires { ⌜ (length (now image) ≡ imageBytes) × (at + 2 ≤ imageBytes) ⌝ }
     ensures { λ _. ⌜ now (image .exit) ≡ sets (now (image .entry)) at (bytesOf 2 v) ⌝ }
 {
     image[at] = (v % 256) as u8;
     image[at + 1] = (v / 256 % 256) as u8;
 }
 
-pub(crate) fn put8(image: &mut [u8; IMAGE_BYTES], at: usize, v: u64)
-    requires { ⌜ at + 8 ≤ imageBytes ⌝ }
+pub(crate) fn put8(image: &mut [u8], at: usize, v: u64)
+    requires { ⌜ (length (now image) ≡ imageBytes) × (at + 8 ≤ imageBytes) ⌝ }
     ensures { λ _. ⌜ now (image .exit) ≡ sets (now (image .entry)) at (bytesOf 8 v) ⌝ }
 {
     let v1 = v / 256;
@@ -60,23 +60,23 @@ pub(crate) fn put8(image: &mut [u8; IMAGE_BYTES], at: usize, v: u64)
     image[at + 7] = (v7 % 256) as u8;
 }
 
-pub(crate) fn put_point(image: &mut [u8; IMAGE_BYTES], at: usize, p: Point)
-    requires { ⌜ at + 4 ≤ imageBytes ⌝ }
+pub(crate) fn put_point(image: &mut [u8], at: usize, p: Point)
+    requires { ⌜ (length (now image) ≡ imageBytes) × (at + 4 ≤ imageBytes) ⌝ }
     ensures { λ _. ⌜ now (image .exit) ≡ puts (now (image .entry)) at (pointRows p) ⌝ }
 {
     put2(image, at, p.x);
     put2(image, at + 2, p.y);
 }
 
-pub(crate) fn get1(image: &[u8; IMAGE_BYTES], at: usize) -> u8
-    requires { ⌜ at + 1 ≤ imageBytes ⌝ }
+pub(crate) fn get1(image: &[u8], at: usize) -> u8
+    requires { ⌜ (length (now image) ≡ imageBytes) × (at + 1 ≤ imageBytes) ⌝ }
     ensures { λ r. ⌜ r ≡ numberAt (now (image .entry)) at 1 ⌝ }
 {
     image[at]
 }
 
-pub(crate) fn get2(image: &[u8; IMAGE_BYTES], at: usize) -> u16
-    requires { ⌜ at + 2 ≤ imageBytes ⌝ }
+pub(crate) fn get2(image: &[u8], at: usize) -> u16
+    requires { ⌜ (length (now image) ≡ imageBytes) × (at + 2 ≤ imageBytes) ⌝ }
     ensures { λ r. ⌜ r ≡ numberAt (now (image .entry)) at 2 ⌝ }
 {
     let low = half(image[at]);
@@ -84,8 +84,8 @@ pub(crate) fn get2(image: &[u8; IMAGE_BYTES], at: usize) -> u16
     low + 256 * high
 }
 
-fn get4(image: &[u8; IMAGE_BYTES], at: usize) -> u64
-    requires { ⌜ at + 4 ≤ imageBytes ⌝ }
+pub(crate) fn get4(image: &[u8], at: usize) -> u64
+    requires { ⌜ (length (now image) ≡ imageBytes) × (at + 4 ≤ imageBytes) ⌝ }
     ensures { λ r. ⌜ (r ≡ numberAt (now (image .entry)) at 4) × (r < 4294967296) ⌝ }
 {
     let b0 = wide8(image[at]);
@@ -95,8 +95,8 @@ fn get4(image: &[u8; IMAGE_BYTES], at: usize) -> u64
     b0 + 256 * (b1 + 256 * (b2 + 256 * b3))
 }
 
-pub(crate) fn get8(image: &[u8; IMAGE_BYTES], at: usize) -> u64
-    requires { ⌜ at + 8 ≤ imageBytes ⌝ }
+pub(crate) fn get8(image: &[u8], at: usize) -> u64
+    requires { ⌜ (length (now image) ≡ imageBytes) × (at + 8 ≤ imageBytes) ⌝ }
     ensures { λ r. ⌜ r ≡ numberAt (now (image .entry)) at 8 ⌝ }
 {
     let low = get4(image, at);
@@ -104,8 +104,8 @@ pub(crate) fn get8(image: &[u8; IMAGE_BYTES], at: usize) -> u64
     low + 4294967296 * high
 }
 
-pub(crate) fn get_point(image: &[u8; IMAGE_BYTES], at: usize) -> Point
-    requires { ⌜ at + 4 ≤ imageBytes ⌝ }
+pub(crate) fn get_point(image: &[u8], at: usize) -> Point
+    requires { ⌜ (length (now image) ≡ imageBytes) × (at + 4 ≤ imageBytes) ⌝ }
     ensures { λ r. ⌜ r ≡ pointAt (now (image .entry)) at ⌝ }
 {
     Point {

@@ -1,10 +1,11 @@
 // The tracker of any image-sized area. Of an area that is no image it makes some tracker, whose own image differs.
 ghost use mathlib.Core.Path.{_≡_};
+ghost use lib.ListN.{length};
+ghost use Rattle.image.specs.Image.{imageBytes};
 ghost use Rattle.image.specs.Places.{at-ended, at-end-time, at-pairs};
 ghost use Rattle.image.specs.Reading.{numberAt, flagFrom, axisFrom, lockFrom, pairingFrom, endFrom, multiAt, pairAt, touchAt, oneAt, trackerAt};
 use crate::fields;
 use crate::places;
-use crate::places::IMAGE_BYTES;
 use crate::writing::DOWN;
 use crate::writing::MULTI;
 use fingers::Multi;
@@ -41,7 +42,8 @@ fn lock_from(n: u8) -> AxisLock
     AxisLock::On(Axis::V)
 }
 
-fn multi_at(image: &[u8; IMAGE_BYTES]) -> Multi
+fn multi_at(image: &[u8]) -> Multi
+    requires { ⌜ length (now image) ≡ imageBytes ⌝ }
     ensures { λ r. ⌜ r ≡ multiAt (now (image .entry)) ⌝ }
 {
     Multi {
@@ -53,7 +55,8 @@ fn multi_at(image: &[u8; IMAGE_BYTES]) -> Multi
     }
 }
 
-fn pair_at(image: &[u8; IMAGE_BYTES]) -> Pair
+fn pair_at(image: &[u8]) -> Pair
+    requires { ⌜ length (now image) ≡ imageBytes ⌝ }
     ensures { λ r. ⌜ r ≡ pairAt (now (image .entry)) ⌝ }
 {
     Pair {
@@ -66,7 +69,8 @@ fn pair_at(image: &[u8; IMAGE_BYTES]) -> Pair
     }
 }
 
-fn pairing_at(image: &[u8; IMAGE_BYTES]) -> Pairing
+fn pairing_at(image: &[u8]) -> Pairing
+    requires { ⌜ length (now image) ≡ imageBytes ⌝ }
     ensures { λ r. ⌜ r ≡ pairingFrom (numberAt (now (image .entry)) at-pairs 1) (pairAt (now (image .entry))) ⌝ }
 {
     let n = fields::get1(image, places::PAIRS);
@@ -77,7 +81,8 @@ fn pairing_at(image: &[u8; IMAGE_BYTES]) -> Pairing
     Pairing::Paired(r)
 }
 
-fn touch_at(image: &[u8; IMAGE_BYTES]) -> Touch
+fn touch_at(image: &[u8]) -> Touch
+    requires { ⌜ length (now image) ≡ imageBytes ⌝ }
     ensures { λ r. ⌜ r ≡ touchAt (now (image .entry)) ⌝ }
 {
     let n = fields::get1(image, places::TOUCH);
@@ -97,7 +102,8 @@ fn touch_at(image: &[u8; IMAGE_BYTES]) -> Touch
     Touch::Residual
 }
 
-fn one_at(image: &[u8; IMAGE_BYTES]) -> One
+fn one_at(image: &[u8]) -> One
+    requires { ⌜ length (now image) ≡ imageBytes ⌝ }
     ensures { λ r. ⌜ r ≡ oneAt (now (image .entry)) ⌝ }
 {
     One {
@@ -114,7 +120,8 @@ fn one_at(image: &[u8; IMAGE_BYTES]) -> One
     }
 }
 
-fn end_at(image: &[u8; IMAGE_BYTES]) -> MultiEnd
+fn end_at(image: &[u8]) -> MultiEnd
+    requires { ⌜ length (now image) ≡ imageBytes ⌝ }
     ensures { λ r. ⌜ r ≡ endFrom (numberAt (now (image .entry)) at-ended 1) (numberAt (now (image .entry)) at-end-time 8) ⌝ }
 {
     let n = fields::get1(image, places::ENDED);
@@ -125,7 +132,8 @@ fn end_at(image: &[u8; IMAGE_BYTES]) -> MultiEnd
     MultiEnd::At(time)
 }
 
-pub(crate) fn tracker_at(image: &[u8; IMAGE_BYTES]) -> Tracker
+pub(crate) fn tracker_at(image: &[u8]) -> Tracker
+    requires { ⌜ length (now image) ≡ imageBytes ⌝ }
     ensures { λ r. ⌜ r ≡ trackerAt (now (image .entry)) ⌝ }
 {
     Tracker {

@@ -1,6 +1,7 @@
-// The parts of a tracker as rows of its image. The image is all zero before: a part that is absent stays so.
+// The parts of a tracker as rows of its image, in the area itself. It is all zero before: a part that is absent stays
+// so.
 ghost use mathlib.Core.Path.{_≡_};
-ghost use lib.ListN.{replicate};
+ghost use lib.ListN.{length, replicate};
 ghost use Rattle.panel.specs.declared.points.Point.{Point};
 ghost use Rattle.fingers.specs.declared.pair.Pairing.the-variants.{Unpaired};
 ghost use Rattle.gesture.specs.Lines as lines;
@@ -30,7 +31,7 @@ pub(crate) const MULTI: u8 = 2;
 pub(crate) const RESIDUAL: u8 = 3;
 
 // A part is there.
-const PRESENT: u8 = 1;
+pub(crate) const PRESENT: u8 = 1;
 
 fn bit(b: bool) -> u8
     ensures { λ r. ⌜ r ≡ lines.bit b ⌝ }
@@ -74,14 +75,16 @@ fn end_time(end: MultiEnd) -> u64
     }
 }
 
-fn put_down(image: &mut [u8; IMAGE_BYTES], start: Point, since: u64)
+fn put_down(image: &mut [u8], start: Point, since: u64)
+    requires { ⌜ length (now image) ≡ imageBytes ⌝ }
     ensures { λ _. ⌜ now (image .exit) ≡ puts (now (image .entry)) at-start (downRows start since) ⌝ }
 {
     fields::put_point(image, places::START, start);
     fields::put8(image, places::SINCE, since);
 }
 
-fn put_multi(image: &mut [u8; IMAGE_BYTES], m: Multi)
+fn put_multi(image: &mut [u8], m: Multi)
+    requires { ⌜ length (now image) ≡ imageBytes ⌝ }
     ensures { λ _. ⌜ now (image .exit) ≡ puts (now (image .entry)) at-most (multiRows m) ⌝ }
 {
     let c0 = m.c0;
@@ -93,7 +96,8 @@ fn put_multi(image: &mut [u8; IMAGE_BYTES], m: Multi)
     fields::put8(image, places::MULTI_T1, m.t1);
 }
 
-fn put_pair(image: &mut [u8; IMAGE_BYTES], r: Pair)
+fn put_pair(image: &mut [u8], r: Pair)
+    requires { ⌜ length (now image) ≡ imageBytes ⌝ }
     ensures { λ _. ⌜ now (image .exit) ≡ puts (now (image .entry)) at-pair-a (pairRows r) ⌝ }
 {
     let a = r.a;
@@ -109,8 +113,8 @@ fn put_pair(image: &mut [u8; IMAGE_BYTES], r: Pair)
     fields::put1(image, places::PAIR_STATE, r.state);
 }
 
-fn put_pairing(image: &mut [u8; IMAGE_BYTES], pair: Pairing)
-    requires { ⌜ puts (now image) at-pairs (pairingRows Unpaired) ≡ now image ⌝ }
+fn put_pairing(image: &mut [u8], pair: Pairing)
+    requires { ⌜ (length (now image) ≡ imageBytes) × (puts (now image) at-pairs (pairingRows Unpaired) ≡ now image) ⌝ }
     ensures { λ _. ⌜ now (image .exit) ≡ puts (now (image .entry)) at-pairs (pairingRows pair) ⌝ }
 {
     match pair {
@@ -122,8 +126,8 @@ fn put_pairing(image: &mut [u8; IMAGE_BYTES], pair: Pairing)
     }
 }
 
-fn put_touch(image: &mut [u8; IMAGE_BYTES], touch: Touch)
-    requires { ⌜ now image ≡ replicate imageBytes 0 ⌝ }
+fn put_touch(image: &mut [u8], touch: Touch)
+    requires { ⌜ (length (now image) ≡ imageBytes) × (now image ≡ replicate imageBytes 0) ⌝ }
     ensures { λ _. ⌜ now (image .exit) ≡ puts (now (image .entry)) at-touch (touchRows touch) ⌝ }
 {
     match touch {
@@ -143,7 +147,8 @@ fn put_touch(image: &mut [u8; IMAGE_BYTES], touch: Touch)
     }
 }
 
-fn put_one(image: &mut [u8; IMAGE_BYTES], o: One)
+fn put_one(image: &mut [u8], o: One)
+    requires { ⌜ length (now image) ≡ imageBytes ⌝ }
     ensures { λ _. ⌜ now (image .exit) ≡ puts (now (image .entry)) at-last (oneRows o) ⌝ }
 {
     let last = o.last;
@@ -160,14 +165,16 @@ fn put_one(image: &mut [u8; IMAGE_BYTES], o: One)
     fields::put1(image, places::RAW, bit(o.raw));
 }
 
-fn put_end(image: &mut [u8; IMAGE_BYTES], end: MultiEnd)
+fn put_end(image: &mut [u8], end: MultiEnd)
+    requires { ⌜ length (now image) ≡ imageBytes ⌝ }
     ensures { λ _. ⌜ now (image .exit) ≡ puts (now (image .entry)) at-ended (endRows end) ⌝ }
 {
     fields::put1(image, places::ENDED, end_number(end));
     fields::put8(image, places::END_TIME, end_time(end));
 }
 
-fn put_settings(image: &mut [u8; IMAGE_BYTES], t: Tracker)
+fn put_settings(image: &mut [u8], t: Tracker)
+    requires { ⌜ length (now image) ≡ imageBytes ⌝ }
     ensures { λ _. ⌜ now (image .exit) ≡ puts (now (image .entry)) at-keys (settingRows t) ⌝ }
 {
     fields::put1(image, places::KEYS, t.keys);
@@ -176,17 +183,35 @@ fn put_settings(image: &mut [u8; IMAGE_BYTES], t: Tracker)
     fields::put1(image, places::RAW_NEXT, bit(t.raw_next));
 }
 
-// The image of a tracker, also of one that breaks the state rule.
-pub fn image_of(t: Tracker) -> [u8; IMAGE_BYTES]
-    ensures { λ r. ⌜ r ≡ imageOf t ⌝ }
+// All zero, as a fresh tracker's image is.
+pub(crate) fn blank(image: &mut [u8])
+    requires { ⌜ length (now image) ≡ imageBytes ⌝ }
+    ensures { λ _. ⌜ now (image .exit) ≡ replicate imageBytes 0 ⌝ }
+{
+    let zeros = [0u8; IMAGE_BYTES];
+    bytes::copy(&zeros, image);
+}
+
+// Straight into the area: an image on the way would be kept in registers, which it is too large for.
+pub(crate) fn put_tracker(image: &mut [u8], t: Tracker)
+    requires { ⌜ length (now image) ≡ imageBytes ⌝ }
+    ensures { λ _. ⌜ now (image .exit) ≡ imageOf t ⌝ }
 {
     let touch = t.touch;
     let one = t.one;
     let end = t.multi_end;
+    blank(image);
+    put_touch(image, touch);
+    put_one(image, one);
+    put_end(image, end);
+    put_settings(image, t);
+}
+
+// The image of a tracker, also of one that breaks the state rule.
+pub fn image_of(t: Tracker) -> [u8; IMAGE_BYTES]
+    ensures { λ r. ⌜ r ≡ imageOf t ⌝ }
+{
     let mut image = [0u8; IMAGE_BYTES];
-    put_touch(&mut image, touch);
-    put_one(&mut image, one);
-    put_end(&mut image, end);
-    put_settings(&mut image, t);
+    put_tracker(&mut image, t);
     image
 }

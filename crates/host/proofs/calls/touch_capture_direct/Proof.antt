@@ -1,50 +1,18 @@
 -- `host::calls::touch_capture_direct` meets its contract. Assumes nothing.
-use Rattle.host.proofs.Hosting.{held-length, host-answered, host-refused}
+use Rattle.host.specs.Calling.{answerTo}
 use borrow.Author.Needs.{needs}
 use Rattle.host.proofs.calls.touch_capture_direct.Statement.{statement}
 use Rattle.host.proofs.calls.touch_capture_direct.Tie as tie
 
-decode-requires : tie.Need-decode-requires
-decode-requires c κs = search needs
-
-enum-known-d : tie.Need-enum-known-d
-enum-known-d c = search needs
-
-capture-direct-requires : tie.Need-capture-direct-requires
-capture-direct-requires c κs = search needs
-
-finish-requires : tie.Need-finish-requires
-finish-requires c κs = held-length _ _ (c .before .before .before .before .before .before .decode .ensures) _ (c .before .before .before .before .d .given .1)
-
-enum-known-d-2 : tie.Need-enum-known-d-2
-enum-known-d-2 c = search needs
-
-number-of-requires : tie.Need-number-of-requires
-number-of-requires c κs = search needs
+made-requires : tie.Need-made-requires
+made-requires c κs = search needs
 
 same-length : tie.Need-same-length
 same-length c = search needs
 
 returns : tie.Need-returns
-returns c = host-answered _ _ (c .before .before .before .before .before .before .before .before .before .decode .ensures) _ _ _ _ _ _ (c .before .before .before .before .before .before .before .d .given .1) (c .before .before .before .before .capture-direct .ensures) (c .before .before .finish .ensures)
-
-same-length-2 : tie.Need-same-length-2
-same-length-2 c = search needs
-
-returns-2 : tie.Need-returns-2
-returns-2 c = host-refused _ _ (c .before .before .before .before .before .decode .ensures) _ _ _ (c .before .before .before .d2 .given .1) (c .number-of .ensures)
+unfolding answerTo
+returns c = c .before .before .made .ensures
 
 pub touch-capture-direct-spec : {M : Type 1} → statement M
-touch-capture-direct-spec =
-    tie.close
-    (tie.spec
-    decode-requires
-    enum-known-d
-    capture-direct-requires
-    finish-requires
-    enum-known-d-2
-    number-of-requires
-    same-length
-    returns
-    same-length-2
-    returns-2)
+touch-capture-direct-spec = tie.close (tie.spec made-requires same-length returns)

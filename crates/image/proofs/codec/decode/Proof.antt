@@ -1,22 +1,39 @@
 -- `image::codec::decode` meets its contract. Assumes nothing.
-use mathlib.Core.Path.{sym, _∙_, ap}
-use Rattle.image.specs.Codec.{decodeOf}
-use Rattle.image.proofs.Codecs.{decode-length}
+use mathlib.Core.Path.{sym, _∙_}
+use Rattle.image.proofs.Codecs.{decode-keeps, decode-breaks, decode-fails}
 use borrow.Author.Needs.{needs}
 use Rattle.image.proofs.codec.decode.Statement.{statement}
 use Rattle.image.proofs.codec.decode.Tie as tie
 
-held-requires : tie.Need-held-requires
-held-requires c κs = search needs
+found-requires : tie.Need-found-requires
+found-requires c κs = search needs
 
-decode-held-requires : tie.Need-decode-held-requires
-decode-held-requires c κs = search needs
+enum-known-d : tie.Need-enum-known-d
+enum-known-d c = search needs
+
+state-ok-requires : tie.Need-state-ok-requires
+state-ok-requires c κs = search needs
 
 returns : tie.Need-returns
-returns c = c .decode-held .ensures ∙ ap decodeOf (c .before .held .ensures .0)
+returns c = decode-keeps _ _ (sym (c .before .before .before .d .given .1) ∙ c .before .before .before .before .before .found .ensures) (sym (c .before .state-ok .ensures) ∙ c .if1 .taken)
+
+enum-known-d-2 : tie.Need-enum-known-d-2
+enum-known-d-2 c = search needs
 
 returns-2 : tie.Need-returns-2
-returns-2 c = sym (decode-length _ (c .if1 .left))
+returns-2 c = decode-breaks _ _ (sym (c .before .before .before .d .given .1) ∙ c .before .before .before .before .before .found .ensures) (sym (c .before .state-ok .ensures) ∙ c .if1 .left)
+
+returns-3 : tie.Need-returns-3
+returns-3 c = decode-fails _ _ (sym (c .before .d2 .given .1) ∙ c .before .before .before .found .ensures)
 
 pub decode-spec : {M : Type 1} → statement M
-decode-spec = tie.close (tie.spec held-requires decode-held-requires returns returns-2)
+decode-spec =
+    tie.close
+    (tie.spec
+    found-requires
+    enum-known-d
+    state-ok-requires
+    returns
+    enum-known-d-2
+    returns-2
+    returns-3)

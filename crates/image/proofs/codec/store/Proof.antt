@@ -10,29 +10,15 @@ number-requires c κs = search needs
 returns : tie.Need-returns
 returns c = store-refused _ _ _ (c .number .ensures) (c .before .if1 .taken)
 
-image-of-requires : tie.Need-image-of-requires
-image-of-requires c κs = search needs
-
-slice-aggregate-copy : tie.Need-slice-aggregate-copy
-slice-aggregate-copy c = search needs
-
-copy-requires : tie.Need-copy-requires
-copy-requires c κs = search needs
+put-tracker-requires : tie.Need-put-tracker-requires
+put-tracker-requires c κs = search needs
 
 same-length : tie.Need-same-length
 same-length c = search needs
 
 returns-2 : tie.Need-returns-2
-returns-2 c = store-done _ _ _ _ (c .before .before .before .before .before .before .if1 .left) (c .before .before .before .before .before .image-of .ensures) (c .before .before .copy .ensures .1)
+returns-2 c = store-done _ _ _ (c .before .before .before .before .if1 .left) (c .before .before .put-tracker .ensures)
 
 pub store-spec : {M : Type 1} → statement M
 store-spec =
-    tie.close
-    (tie.spec
-    number-requires
-    returns
-    image-of-requires
-    slice-aggregate-copy
-    copy-requires
-    same-length
-    returns-2)
+    tie.close (tie.spec number-requires returns put-tracker-requires same-length returns-2)

@@ -4,8 +4,8 @@ use borrow.Author.Needs.{needs}
 use Rattle.image.proofs.fields.get2.Statement.{statement}
 use Rattle.image.proofs.fields.get2.Tie as tie
 
-element-copy-out-half : tie.Need-element-copy-out-half
-element-copy-out-half c = search needs
+shared-slice-read-half : tie.Need-shared-slice-read-half
+shared-slice-read-half c = search needs
 
 half-requires : tie.Need-half-requires
 half-requires c κs = search needs
@@ -13,8 +13,8 @@ half-requires c κs = search needs
 add-half : tie.Need-add-half
 add-half c = search needs
 
-element-copy-out-half-2 : tie.Need-element-copy-out-half-2
-element-copy-out-half-2 c = search needs
+shared-slice-read-half-2 : tie.Need-shared-slice-read-half-2
+shared-slice-read-half-2 c = search needs
 
 half-requires-2 : tie.Need-half-requires-2
 half-requires-2 c κs = search needs
@@ -32,10 +32,10 @@ pub get2-spec : {M : Type 1} → statement M
 get2-spec =
     tie.close
     (tie.spec
-    element-copy-out-half
+    shared-slice-read-half
     half-requires
     add-half
-    element-copy-out-half-2
+    shared-slice-read-half-2
     half-requires-2
     mul-result
     add-result

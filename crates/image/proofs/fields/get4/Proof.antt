@@ -5,8 +5,8 @@ use borrow.Author.Needs.{needs}
 use Rattle.image.proofs.fields.get4.Statement.{statement}
 use Rattle.image.proofs.fields.get4.Tie as tie
 
-element-copy-out-wide8 : tie.Need-element-copy-out-wide8
-element-copy-out-wide8 c = search needs
+shared-slice-read-wide8 : tie.Need-shared-slice-read-wide8
+shared-slice-read-wide8 c = search needs
 
 wide8-requires : tie.Need-wide8-requires
 wide8-requires c κs = search needs
@@ -14,8 +14,8 @@ wide8-requires c κs = search needs
 add-wide8 : tie.Need-add-wide8
 add-wide8 c = search needs
 
-element-copy-out-wide8-2 : tie.Need-element-copy-out-wide8-2
-element-copy-out-wide8-2 c = search needs
+shared-slice-read-wide8-2 : tie.Need-shared-slice-read-wide8-2
+shared-slice-read-wide8-2 c = search needs
 
 wide8-requires-2 : tie.Need-wide8-requires-2
 wide8-requires-2 c κs = search needs
@@ -23,8 +23,8 @@ wide8-requires-2 c κs = search needs
 add-wide8-2 : tie.Need-add-wide8-2
 add-wide8-2 c = search needs
 
-element-copy-out-wide8-3 : tie.Need-element-copy-out-wide8-3
-element-copy-out-wide8-3 c = search needs
+shared-slice-read-wide8-3 : tie.Need-shared-slice-read-wide8-3
+shared-slice-read-wide8-3 c = search needs
 
 wide8-requires-3 : tie.Need-wide8-requires-3
 wide8-requires-3 c κs = search needs
@@ -32,8 +32,8 @@ wide8-requires-3 c κs = search needs
 add-wide8-3 : tie.Need-add-wide8-3
 add-wide8-3 c = search needs
 
-element-copy-out-wide8-4 : tie.Need-element-copy-out-wide8-4
-element-copy-out-wide8-4 c = search needs
+shared-slice-read-wide8-4 : tie.Need-shared-slice-read-wide8-4
+shared-slice-read-wide8-4 c = search needs
 
 wide8-requires-4 : tie.Need-wide8-requires-4
 wide8-requires-4 c κs = search needs
@@ -63,16 +63,16 @@ pub get4-spec : {M : Type 1} → statement M
 get4-spec =
     tie.close
     (tie.spec
-    element-copy-out-wide8
+    shared-slice-read-wide8
     wide8-requires
     add-wide8
-    element-copy-out-wide8-2
+    shared-slice-read-wide8-2
     wide8-requires-2
     add-wide8-2
-    element-copy-out-wide8-3
+    shared-slice-read-wide8-3
     wide8-requires-3
     add-wide8-3
-    element-copy-out-wide8-4
+    shared-slice-read-wide8-4
     wide8-requires-4
     mul-result
     add-result

@@ -19,9 +19,12 @@ add-put2 c = search needs
 put2-requires-2 : tie.Need-put2-requires-2
 put2-requires-2 c κs = search needs
 
+same-length : tie.Need-same-length
+same-length c = search needs
+
 returns : tie.Need-returns
 unfolding puts pointRows
-returns c = c .put22 .ensures ∙ ap (λ (area : List ℕ). sets area (c .before .before .before .before .args .at + 2) (bytesOf 2 (c .before .before .before .before .args .p .y))) (c .before .before .put2 .ensures)
+returns c = c .before .before .put22 .ensures ∙ ap (λ (area : List ℕ). sets area (c .before .before .before .before .before .before .before .before .before .args .at + 2) (bytesOf 2 (c .before .before .before .before .before .before .before .before .before .args .p .y))) (c .before .before .before .before .before .before .put2 .ensures)
 
 pub put-point-spec : {M : Type 1} → statement M
-put-point-spec = tie.close (tie.spec put2-requires add-put2 put2-requires-2 returns)
+put-point-spec = tie.close (tie.spec put2-requires add-put2 put2-requires-2 same-length returns)

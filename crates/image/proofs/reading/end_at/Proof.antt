@@ -1,19 +1,19 @@
 -- `image::reading::end_at` meets its contract. Assumes nothing.
 use Rattle.panel.proofs.Follow.{follow}
 use Rattle.image.specs.Reading.{endFrom}
-use lib.Dec.{lit≤}
+use borrow.Author.Needs.{needs}
 use Rattle.image.proofs.reading.end_at.Statement.{statement}
 use Rattle.image.proofs.reading.end_at.Tie as tie
 
 get1-requires : tie.Need-get1-requires
-get1-requires c κs = lit≤ tt
+get1-requires c κs = search needs
 
 returns : tie.Need-returns
 unfolding endFrom
 returns c = search (follow, ← c .before .get1 .ensures)
 
 get8-requires : tie.Need-get8-requires
-get8-requires c κs = lit≤ tt
+get8-requires c κs = search needs
 
 returns-2 : tie.Need-returns-2
 unfolding endFrom

@@ -1,23 +1,23 @@
 -- `image::reading::multi_at` meets its contract. Assumes nothing.
 use Rattle.image.specs.Reading.{multiAt}
-use lib.Dec.{lit≤}
+use borrow.Author.Needs.{needs}
 use Rattle.image.proofs.reading.multi_at.Statement.{statement}
 use Rattle.image.proofs.reading.multi_at.Tie as tie
 
 get1-requires : tie.Need-get1-requires
-get1-requires c κs = lit≤ tt
+get1-requires c κs = search needs
 
 get-point-requires : tie.Need-get-point-requires
-get-point-requires c κs = lit≤ tt
+get-point-requires c κs = search needs
 
 get8-requires : tie.Need-get8-requires
-get8-requires c κs = lit≤ tt
+get8-requires c κs = search needs
 
 get-point-requires-2 : tie.Need-get-point-requires-2
-get-point-requires-2 c κs = lit≤ tt
+get-point-requires-2 c κs = search needs
 
 get8-requires-2 : tie.Need-get8-requires-2
-get8-requires-2 c κs = lit≤ tt
+get8-requires-2 c κs = search needs
 
 returns : tie.Need-returns
 unfolding multiAt

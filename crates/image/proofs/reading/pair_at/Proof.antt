@@ -1,31 +1,30 @@
 -- `image::reading::pair_at` meets its contract. Assumes nothing.
 use mathlib.Core.Path.{_∙_, ap}
 use Rattle.image.specs.Reading.{axisFrom, pairAt}
-use lib.Dec.{lit≤}
 use borrow.Author.Needs.{needs}
 use Rattle.image.proofs.reading.pair_at.Statement.{statement}
 use Rattle.image.proofs.reading.pair_at.Tie as tie
 
 get-point-requires : tie.Need-get-point-requires
-get-point-requires c κs = lit≤ tt
+get-point-requires c κs = search needs
 
 get-point-requires-2 : tie.Need-get-point-requires-2
-get-point-requires-2 c κs = lit≤ tt
+get-point-requires-2 c κs = search needs
 
 get1-requires : tie.Need-get1-requires
-get1-requires c κs = lit≤ tt
+get1-requires c κs = search needs
 
 axis-from-requires : tie.Need-axis-from-requires
 axis-from-requires c κs = search needs
 
 get2-requires : tie.Need-get2-requires
-get2-requires c κs = lit≤ tt
+get2-requires c κs = search needs
 
 get-point-requires-3 : tie.Need-get-point-requires-3
-get-point-requires-3 c κs = lit≤ tt
+get-point-requires-3 c κs = search needs
 
 get1-requires-2 : tie.Need-get1-requires-2
-get1-requires-2 c κs = lit≤ tt
+get1-requires-2 c κs = search needs
 
 returns : tie.Need-returns
 unfolding pairAt

@@ -1,13 +1,12 @@
 -- `image::reading::pairing_at` meets its contract. Assumes nothing.
 use Rattle.panel.proofs.Follow.{follow}
 use Rattle.image.specs.Reading.{pairingFrom}
-use lib.Dec.{lit≤}
 use borrow.Author.Needs.{needs}
 use Rattle.image.proofs.reading.pairing_at.Statement.{statement}
 use Rattle.image.proofs.reading.pairing_at.Tie as tie
 
 get1-requires : tie.Need-get1-requires
-get1-requires c κs = lit≤ tt
+get1-requires c κs = search needs
 
 returns : tie.Need-returns
 unfolding pairingFrom

@@ -1,7 +1,6 @@
 -- `image::reading::tracker_at` meets its contract. Assumes nothing.
 use mathlib.Core.Path.{_∙_, ap}
 use Rattle.image.specs.Reading.{flagFrom, trackerAt}
-use lib.Dec.{lit≤}
 use borrow.Author.Needs.{needs}
 use Rattle.image.proofs.reading.tracker_at.Statement.{statement}
 use Rattle.image.proofs.reading.tracker_at.Tie as tie
@@ -16,16 +15,16 @@ end-at-requires : tie.Need-end-at-requires
 end-at-requires c κs = search needs
 
 get1-requires : tie.Need-get1-requires
-get1-requires c κs = lit≤ tt
+get1-requires c κs = search needs
 
 get1-requires-2 : tie.Need-get1-requires-2
-get1-requires-2 c κs = lit≤ tt
+get1-requires-2 c κs = search needs
 
 get2-requires : tie.Need-get2-requires
-get2-requires c κs = lit≤ tt
+get2-requires c κs = search needs
 
 get1-requires-3 : tie.Need-get1-requires-3
-get1-requires-3 c κs = lit≤ tt
+get1-requires-3 c κs = search needs
 
 flag-requires : tie.Need-flag-requires
 flag-requires c κs = search needs

@@ -1,32 +1,35 @@
 -- `image::writing::put_multi` meets its contract. Assumes nothing.
 use Rattle.image.proofs.Written.{multi-put}
-use lib.Dec.{lit≤}
+use borrow.Author.Needs.{needs}
 use Rattle.image.proofs.writing.put_multi.Statement.{statement}
 use Rattle.image.proofs.writing.put_multi.Tie as tie
 
 put1-requires : tie.Need-put1-requires
-put1-requires c κs = lit≤ tt
+put1-requires c κs = search needs
 
 put-point-requires : tie.Need-put-point-requires
-put-point-requires c κs = lit≤ tt
+put-point-requires c κs = search needs
 
 put8-requires : tie.Need-put8-requires
-put8-requires c κs = lit≤ tt
+put8-requires c κs = search needs
 
 put-point-requires-2 : tie.Need-put-point-requires-2
-put-point-requires-2 c κs = lit≤ tt
+put-point-requires-2 c κs = search needs
 
 put8-requires-2 : tie.Need-put8-requires-2
-put8-requires-2 c κs = lit≤ tt
+put8-requires-2 c κs = search needs
+
+same-length : tie.Need-same-length
+same-length c = search needs
 
 returns : tie.Need-returns
 returns c =
     multi-put _ _ _ _ _ _ _
-    (c .before .before .before .before .before .before .before .before .put1 .ensures)
-    (c .before .before .before .before .before .before .put-point .ensures)
-    (c .before .before .before .before .put8 .ensures)
-    (c .before .before .put-point2 .ensures)
-    (c .put82 .ensures)
+    (c .before .before .before .before .before .before .before .before .before .before .before .before .before .before .before .before .before .before .put1 .ensures)
+    (c .before .before .before .before .before .before .before .before .before .before .before .before .before .before .put-point .ensures)
+    (c .before .before .before .before .before .before .before .before .before .before .put8 .ensures)
+    (c .before .before .before .before .before .before .put-point2 .ensures)
+    (c .before .before .put82 .ensures)
 
 pub put-multi-spec : {M : Type 1} → statement M
 put-multi-spec =
@@ -37,4 +40,5 @@ put-multi-spec =
     put8-requires
     put-point-requires-2
     put8-requires-2
+    same-length
     returns)

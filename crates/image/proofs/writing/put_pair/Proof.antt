@@ -1,6 +1,5 @@
 -- `image::writing::put_pair` meets its contract. Assumes nothing.
 use Rattle.image.proofs.Written.{pair-put}
-use lib.Dec.{lit≤}
 use borrow.Author.Needs.{needs}
 use Rattle.image.proofs.writing.put_pair.Statement.{statement}
 use Rattle.image.proofs.writing.put_pair.Tie as tie
@@ -9,33 +8,36 @@ axis-number-requires : tie.Need-axis-number-requires
 axis-number-requires c κs = search needs
 
 put-point-requires : tie.Need-put-point-requires
-put-point-requires c κs = lit≤ tt
+put-point-requires c κs = search needs
 
 put-point-requires-2 : tie.Need-put-point-requires-2
-put-point-requires-2 c κs = lit≤ tt
+put-point-requires-2 c κs = search needs
 
 put1-requires : tie.Need-put1-requires
-put1-requires c κs = lit≤ tt
+put1-requires c κs = search needs
 
 put2-requires : tie.Need-put2-requires
-put2-requires c κs = lit≤ tt
+put2-requires c κs = search needs
 
 put-point-requires-3 : tie.Need-put-point-requires-3
-put-point-requires-3 c κs = lit≤ tt
+put-point-requires-3 c κs = search needs
 
 put1-requires-2 : tie.Need-put1-requires-2
-put1-requires-2 c κs = lit≤ tt
+put1-requires-2 c κs = search needs
+
+same-length : tie.Need-same-length
+same-length c = search needs
 
 returns : tie.Need-returns
 returns c =
     pair-put _ _ _ _ _ _ _ _ _
-    (c .before .before .before .before .before .before .before .before .before .before .put-point .ensures)
-    (c .before .before .before .before .before .before .before .before .put-point2 .ensures)
-    (c .before .before .before .before .before .before .before .before .before .before .before .before .axis-number .ensures)
-    (c .before .before .before .before .before .before .put1 .ensures)
-    (c .before .before .before .before .put2 .ensures)
-    (c .before .before .put-point3 .ensures)
-    (c .put12 .ensures)
+    (c .before .before .before .before .before .before .before .before .before .before .before .before .before .before .before .before .before .before .before .before .before .before .put-point .ensures)
+    (c .before .before .before .before .before .before .before .before .before .before .before .before .before .before .before .before .before .before .put-point2 .ensures)
+    (c .before .before .before .before .before .before .before .before .before .before .before .before .before .before .before .before .before .before .before .before .before .before .before .before .axis-number .ensures)
+    (c .before .before .before .before .before .before .before .before .before .before .before .before .before .before .put1 .ensures)
+    (c .before .before .before .before .before .before .before .before .before .before .put2 .ensures)
+    (c .before .before .before .before .before .before .put-point3 .ensures)
+    (c .before .before .put12 .ensures)
 
 pub put-pair-spec : {M : Type 1} → statement M
 put-pair-spec =
@@ -48,4 +50,5 @@ put-pair-spec =
     put2-requires
     put-point-requires-3
     put1-requires-2
+    same-length
     returns)
