@@ -7,7 +7,7 @@ use native.Mathlib.Nat.{le-refl, le-trans, le-suc, mul-le-mul}
 use native.Mathlib.Omega.{arith}
 use lib.Dec.{T, leb, ltb, ltb→lt, nltb→le}
 use lib.IntN.{ℤ, pos, negsuc, negℤ, natAbs, _+ℤ_, _-ℤ_, _*ℤ_}
-use lib.Signed.{mag, ltZ, leZ, nonNeg, natAbs-le}
+use lib.Signed.{mag, ltZ, leZ}
 use mir.Syntax.{w16, w32, w64}
 use mir.Val.{toZ, ofZ, SFits}
 use mir.ValLaws.{toZ-ofZ}
@@ -62,13 +62,6 @@ product-fits {a} {b} ha hb = record { sfits = omega (arith, mag-mul a b, mul-le-
 pub plain : {x : ℤ} → SFits w32 x → toZ w32 (ofZ w32 x) ≡ x
 plain {x} h = toZ-ofZ w32 x h
 
--- a number of 32 bits at 64
-pub widened : {x : ℤ} → SFits w32 x → SFits w64 (toZ w32 (ofZ w32 x))
-widened h = subst (SFits w64) (sym (plain h)) (sfits-widen tt h)
-
-pub read-twice : {x : ℤ} → SFits w32 x → toZ w64 (ofZ w64 (toZ w32 (ofZ w32 x))) ≡ x
-read-twice {x} h = toZ-ofZ w64 (toZ w32 (ofZ w32 x)) (widened h) ∙ plain h
-
 -- The ends of i32 and i16. `low` is the least number less 1, so that the test of it is `ltZ v (negsuc low)`.
 
 module _ (low : ℕ) where
@@ -95,19 +88,6 @@ in32-yes z h = lt-ltb _ _ h
 pub in32-fits : (z : ℤ) → in32 z ≡ true → SFits w32 z
 unfolding in32
 in32-fits z h = record { sfits = ltb-true _ _ h }
-
--- A square.
-
-pub square-nonNeg : (d : ℤ) → T (nonNeg (d *ℤ d))
-square-nonNeg (pos n) = tt
-square-nonNeg (negsuc n) = tt
-
-pub square-is : (d : ℤ) → natAbs (d *ℤ d) ≡ natAbs d * natAbs d
-square-is (pos n) = refl
-square-is (negsuc n) = refl
-
-pub square-size : {d : ℤ} → SFits w32 d → natAbs d * natAbs d ≤ 4611686018427387904
-square-size {d} h = mul-le-mul (natAbs-le d (h .sfits)) (natAbs-le d (h .sfits))
 
 -- A number of 16 bits at 32.
 

@@ -1,7 +1,5 @@
 // How far two places are apart, in tenths of a pixel.
 ghost use mathlib.Core.Path.{_≡_};
-ghost use Prim.Native.Nat.{_*_, _≤_};
-ghost use lib.IntN.{natAbs};
 ghost use Rattle.calmap.specs.Distances.{tenthsOf, tenths, dist10Of};
 use crate::checked;
 use crate::checked::Narrow;
@@ -14,14 +12,6 @@ use panel::Refusal;
 pub enum Dist10Answer {
     Answered(Tenths),
     Refused(Refusal),
-}
-
-// The square of a difference. It is formed at 64 bits, where it always fits: at most 2^62.
-fn square(d: i32) -> u64
-    ensures { λ r. ⌜ (r ≡ natAbs d * natAbs d) × (r ≤ 4611686018427387904) ⌝ }
-{
-    let w = d as i64;
-    (w * w) as u64
 }
 
 // A squared distance in sixteenths of a pixel, as a distance in tenths.
@@ -42,5 +32,5 @@ pub fn dist10(ax: Sixteenths, ay: Sixteenths, bx: Sixteenths, by: Sixteenths) ->
     let Narrow::In(dy) = checked::minus(ay, by) else {
         return Dist10Answer::Refused(Refusal::Wide);
     };
-    Dist10Answer::Answered(in_tenths(square(dx) + square(dy)))
+    Dist10Answer::Answered(in_tenths(panel::square(dx) + panel::square(dy)))
 }

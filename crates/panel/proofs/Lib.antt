@@ -1,5 +1,5 @@
--- What the crates above may cite: `Follow`, to follow a definition by its tests, and the laws of the
--- measures in `Laws`. The other modules serve this crate's own proofs.
+-- What the crates above may cite: `Follow`, to follow a definition by its tests, the laws of the
+-- measures in `Laws`, and signed numbers at twice their width in `Squares`. The other modules serve this crate's own proofs.
 pub mod Follow
 pub mod Laws
 pub mod Promises

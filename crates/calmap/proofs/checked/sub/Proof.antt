@@ -6,7 +6,8 @@ use mir.Val.{toZ, ofZ, SFits}
 use mir.ValLaws.{toZ-ofZ}
 use borrow.Author.Needs.{needs}
 use Rattle.calmap.specs.Checked.{narrowOf}
-use Rattle.calmap.proofs.Signed.{difference-fits, widened, read-twice}
+use Rattle.panel.proofs.Squares.{widened, read-twice}
+use Rattle.calmap.proofs.Signed.{difference-fits}
 use Rattle.calmap.proofs.checked.sub.Statement.{statement}
 use Rattle.calmap.proofs.checked.sub.Tie as tie
 
