@@ -100,20 +100,40 @@ fn with_axis(o: One, a: Axis) -> One
 pub fn with_capture(o: One, raw: bool) -> One
     ensures { λ r. ⌜ r ≡ fields.setCaptured o raw ⌝ }
 {
-    let mut n = o;
-    n.captured = true;
-    n.raw = raw;
-    n
+    let last = o.last;
+    let axis = o.axis;
+    One {
+        last,
+        moved: o.moved,
+        far: o.far,
+        long_sent: o.long_sent,
+        axis,
+        grabbed: o.grabbed,
+        direct: o.direct,
+        early: o.early,
+        captured: true,
+        raw,
+    }
 }
 
 // The touch in the app's hands, with no hold before a drag.
 pub fn with_direct(o: One) -> One
     ensures { λ r. ⌜ r ≡ fields.setDirect o ⌝ }
 {
-    let mut n = o;
-    n.captured = true;
-    n.direct = true;
-    n
+    let last = o.last;
+    let axis = o.axis;
+    One {
+        last,
+        moved: o.moved,
+        far: o.far,
+        long_sent: o.long_sent,
+        axis,
+        grabbed: o.grabbed,
+        direct: true,
+        early: o.early,
+        captured: true,
+        raw: o.raw,
+    }
 }
 
 fn larger(a: u16, b: u16) -> u16

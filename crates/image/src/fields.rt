@@ -1,4 +1,4 @@
-// Numbers of one, two and eight bytes in an image, low byte first, and points as two numbers of two. Each place is a
+// Numbers of one, two, four and eight bytes in an image, low byte first, and points as two numbers of two. Each place is a
 // literal where these are called, so that the bytes of a number are loaded and stored at once.
 ghost use mathlib.Core.Path.{_≡_};
 ghost use Prim.Native.Nat.{_+_, _*_, _≤_, _<_, _/_, _%_};
