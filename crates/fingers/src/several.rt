@@ -15,19 +15,19 @@ use crate::sizes::MULTI_MIN_3;
 use panel::Point;
 
 pub struct Multi {
-    // Time and centroid when n fingers were first seen, n the most seen in this touch.
+    // Time and centroid when n fingers were first seen.
     pub t0: u64,
-    pub n: u8,
     pub c0: Point,
-    // Time and centroid of the last report with n fingers.
+    // Time of the last report with n fingers, n the most seen in this touch, and its centroid.
     pub t1: u64,
+    pub n: u8,
     pub c1: Point,
 }
 
 pub struct MultiStep {
     pub out: Outcome,
-    pub multi: Multi,
     pub pair: Pairing,
+    pub multi: Multi,
 }
 
 // n fingers for the first time.
