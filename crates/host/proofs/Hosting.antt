@@ -22,7 +22,7 @@ use Rattle.gesture.specs.declared.answers.Given.the-variants.{Nothing}
 use Rattle.gesture.specs.declared.lines.Log.the-variants.{Silent}
 use Rattle.gesture.specs.declared.answers.GrabAnswer.{GrabAnswer}
 use Rattle.gesture.specs.declared.record.Tracker.{Tracker}
-use Rattle.image.specs.Image.{imageOf, imageBytes}
+use Rattle.image.specs.Image.{imageBytes}
 use Rattle.image.specs.Places.{at-grab}
 use Rattle.image.specs.Reading.{numberAt, trackerAt}
 use Rattle.image.specs.Codec.{decodeOf, Stored, stored, storeOf}

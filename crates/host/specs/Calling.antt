@@ -1,5 +1,4 @@
 -- The calls as one kind of value, as the code passes them on: each is the tracker's call of its name.
-use Prim.Native.Nat.{ℕ}
 use Rattle.gesture.specs.Answers.{eventOf, tickOf, captureOf, captureDirectOf, rawNextOf, setGrabOf, grabOf}
 use Rattle.gesture.specs.declared.answers.Answer.{Answer}
 use Rattle.gesture.specs.declared.record.Tracker.{Tracker}

@@ -31,8 +31,8 @@ use Rattle.gesture.specs.declared.record.MultiEnd.{MultiEnd}
 use Rattle.gesture.specs.declared.record.MultiEnd.the-variants.{Never, At}
 use Rattle.gesture.specs.declared.record.Tracker.{Tracker}
 use Rattle.image.specs.Rows.{Row, row, bytesOf, laid}
-use Rattle.image.specs.Image.{imageBytes, touchNumber, startOf, sinceOf, multiOf, pairingOf, pairNumber, pairOf, endNumber, endTime, lockNumber, zeroMulti, zeroPair, pointRows, downRows, multiRows, pairRows, pairingRows, touchRows, oneRows, endRows, settingRows, table, imageOf}
-use Rattle.image.specs.Places.{at-touch, at-start, at-since, at-most, at-multi-c0, at-multi-t0, at-multi-c1, at-multi-t1, at-pairs, at-pair-a, at-pair-b, at-pair-axis, at-span0, at-pair-c0, at-pair-state, at-last, at-moved, at-far, at-long-sent, at-axis, at-grabbed, at-direct, at-early, at-captured, at-raw, at-ended, at-end-time, at-keys, at-keys-want, at-grab, at-raw-next}
+use Rattle.image.specs.Image.{imageBytes, touchNumber, startOf, sinceOf, multiOf, pairingOf, pairNumber, pairOf, endNumber, endTime, lockNumber, zeroMulti, pointRows, downRows, multiRows, pairRows, pairingRows, touchRows, oneRows, endRows, settingRows, table, imageOf}
+use Rattle.image.specs.Places.{at-touch, at-start, at-since, at-most, at-multi-t0, at-multi-c1, at-multi-t1, at-pairs, at-pair-a, at-pair-b, at-pair-axis, at-span0, at-pair-c0, at-pair-state, at-last, at-moved, at-far, at-long-sent, at-axis, at-grabbed, at-direct, at-early, at-captured, at-raw, at-ended, at-end-time, at-keys, at-keys-want, at-grab, at-raw-next}
 use Rattle.image.specs.Reading.{numberAt, pointAt, flagFrom, axisFrom, lockFrom, pairingFrom, touchFrom, endFrom, multiAt, pairAt, touchAt, oneAt, trackerAt}
 use Rattle.image.specs.Checked.{zeroAt, flagAt, noDown, noMulti, noPair, pairingChecked, singleChecked, touchChecked, handChecked, appChecked, endChecked, restChecked, imageChecked}
 use Rattle.image.specs.Typed.{Bytes}
