@@ -12,7 +12,7 @@ use Rattle.fingers.specs.Pairs.{spanAlong, pairAxis, newPair}
 use Rattle.fingers.specs.Releases.{tapOrNote, isSwipe, swipeOrNote, releaseBy, releaseOf}
 use Rattle.fingers.specs.Several.{multiFrom, farDown, swipedDown, multiRule, isPinch, multiEnd}
 use Rattle.gesture.specs.Answers.{answered, givenBy, pointsInUse, reported, eventOf, ticked, tickOf}
-use Rattle.gesture.specs.Lines.{isLocked, isDrag, gestureLine, reportGestureLine, reportLine, tickLine}
+use Rattle.gesture.specs.Lines.{isLocked, isDrag, gestureLine, reportGestureLine, noteLine, reportLine, tickLine}
 use Rattle.gesture.specs.Reports.{upOutcome, endStored, allUp, isLastFinger, residualTouch, newTouch, touchDown, goesOn, oneFinger, twoStart, two, several, twoOf, fingersOf, keysThenFingers, reportStep}
 use Rattle.gesture.specs.States.{heldPoints, centroids, spanRule, pairRule, mostRule, rawRule, stateRule}
 use Rattle.gesture.specs.Ticks.{stillDown, keysThenHold, tickStep}
@@ -25,5 +25,5 @@ use Rattle.panel.specs.Tests.{if_then_else_, _and_, _or_}
 use Rattle.cases.specs.Starred.{after, Holds, AllHold, table}
 
 pub starred : AllHold table
-unfolding after Holds AllHold eventOf tickOf answered givenBy pointsInUse reported ticked upOutcome endStored allUp isLastFinger residualTouch newTouch touchDown goesOn oneFinger twoStart two several twoOf fingersOf keysThenFingers reportStep heldPoints centroids spanRule pairRule mostRule rawRule stateRule stillDown keysThenHold tickStep freshTracker setTouch setKeys reset setAxis holdOf grabDue longFrom longDue heldStill without lowest flipped keyStep trailingZeros earlyNow tracked axisAt dragAlong mayDrag moving grabOrMoving laterReport spanAlong pairAxis newPair tapOrNote isSwipe swipeOrNote releaseBy releaseOf multiFrom farDown swipedDown multiRule isPinch multiEnd axisOf total mean middle difference distance onPanel allOnPanel fingers if_then_else_ _and_ _or_ gestureLine isDrag isLocked reportGestureLine reportLine tickLine applyOf lineFits line in16 in32 down checkOf verdictOf scaleHolds mild allStay stays near
+unfolding after Holds AllHold eventOf tickOf answered givenBy pointsInUse reported ticked upOutcome endStored allUp isLastFinger residualTouch newTouch touchDown goesOn oneFinger twoStart two several twoOf fingersOf keysThenFingers reportStep heldPoints centroids spanRule pairRule mostRule rawRule stateRule stillDown keysThenHold tickStep freshTracker setTouch setKeys reset setAxis holdOf grabDue longFrom longDue heldStill without lowest flipped keyStep trailingZeros earlyNow tracked axisAt dragAlong mayDrag moving grabOrMoving laterReport spanAlong pairAxis newPair tapOrNote isSwipe swipeOrNote releaseBy releaseOf multiFrom farDown swipedDown multiRule isPinch multiEnd axisOf total mean middle difference distance onPanel allOnPanel fingers if_then_else_ _and_ _or_ gestureLine isDrag isLocked reportGestureLine noteLine reportLine tickLine applyOf lineFits line in16 in32 down checkOf verdictOf scaleHolds mild allStay stays near
 starred = (refl, (refl, ((refl, refl), (refl, ((refl, refl), (refl, (refl, (refl, (refl, (refl, ((refl, refl), (refl, (refl, (refl, (refl, (refl, (refl, tt)))))))))))))))))
