@@ -34,7 +34,7 @@ struct call {
 
 static struct call calls[CALLS_MOST];
 
-static void event(uint8_t *image, const struct call *c, uint64_t *out) {
+static inline void event(uint8_t *image, const struct call *c, uint64_t *out) {
     touch_event(image, TOUCH_IMAGE_BYTES, c->time, c->keys, c->count, c->px, c->py, c->x[0], c->y[0], c->x[1], c->y[1], c->x[2],
                 c->y[2], c->x[3], c->y[3], c->x[4], c->y[4], out);
 }
@@ -47,7 +47,7 @@ static struct {
 
 static uint32_t lines;
 
-static void store(const uint64_t *out) {
+static inline void store(const uint64_t *out) {
     if (out[TOUCH_OUT_LETTER] == 0) return;
     ring[lines % LINES].time = (uint32_t)out[TOUCH_OUT_LOG_TIME];
     ring[lines % LINES].letter = (uint8_t)out[TOUCH_OUT_LETTER];
@@ -79,15 +79,21 @@ int main(void) {
     uint64_t out[TOUCH_OUT], sum = 0;
     size_t k = 0;
     touch_fresh(image, sizeof image);
-    if (row == TICKS) event(image, &calls[0], out); /* the finger that is down meanwhile */
-    for (uint64_t i = 0; i < n; i++) {
-        if (row == TICKS)
+    if (row == TICKS) {
+        event(image, &calls[0], out); /* the finger that is down meanwhile */
+        for (uint64_t i = 0; i < n; i++) {
             touch_tick(image, sizeof image, calls[k].time, out);
-        else
+            sum += out[TOUCH_OUT_GESTURE];
+            store(out);
+            k = k + 1 < held ? k + 1 : 0;
+        }
+    } else {
+        for (uint64_t i = 0; i < n; i++) {
             event(image, &calls[k], out);
-        sum += out[TOUCH_OUT_GESTURE];
-        store(out);
-        k = k + 1 < held ? k + 1 : 0;
+            sum += out[TOUCH_OUT_GESTURE];
+            store(out);
+            k = k + 1 < held ? k + 1 : 0;
+        }
     }
     for (unsigned i = 0; i < LINES; i++) sum += ring[i].time + ring[i].letter + ring[i].argument + ring[i].x + ring[i].y;
     printf("%" PRIu64, sum);

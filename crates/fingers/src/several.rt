@@ -15,12 +15,12 @@ use crate::sizes::MULTI_MIN_3;
 use panel::Point;
 
 pub struct Multi {
-    // Time and centroid when n fingers were first seen.
+    // When the most fingers of this touch were first seen, how many they are, and their centroid.
     pub t0: u64,
-    pub c0: Point,
-    // Time of the last report with n fingers, n the most seen in this touch, and its centroid.
-    pub t1: u64,
     pub n: u8,
+    pub c0: Point,
+    // Time and centroid of the last report with n fingers.
+    pub t1: u64,
     pub c1: Point,
 }
 
