@@ -24,7 +24,7 @@ struct One {
 pub fn slot(i: usize) -> usize
     ensures { λ r. ⌜ r < 16 ⌝ }
 {
-    if i < PLACES { i } else { 0 }
+    i % PLACES
 }
 
 fn no_event() -> Event {

@@ -16,7 +16,7 @@ pub struct Numbers {
 pub fn slot(i: usize) -> usize
     ensures { λ r. ⌜ r < 64 ⌝ }
 {
-    if i < PLACES { i } else { 0 }
+    i % PLACES
 }
 
 fn is_there(to: Cursor) -> bool {
