@@ -4,6 +4,7 @@ mod numbers;
 mod play;
 mod touch;
 mod touchcal;
+mod trace;
 
 use gesture::{Gesture, Tracker};
 use numbers::{unfolded, Reader};
@@ -46,7 +47,7 @@ fn held(r: &mut Reader) -> Vec<Held> {
     while calls.len() < CALLS_MOST && !r.done() {
         let Ok(kind) = r.next(u64::MAX) else { break };
         let call = if kind == 1 {
-            play::report(r).map(|(time, event)| Held { event, time })
+            trace::report(r).map(|(time, event)| Held { event, time })
         } else {
             r.next(u64::MAX).map(|time| Held { event: Event::default(), time })
         };

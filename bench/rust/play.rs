@@ -1,41 +1,7 @@
 //! The trace program on the Rust: document 01's lines for a trace, written into a buffer as the proved one does.
-use crate::gesture::{self, Axis, Gesture, Tracker};
-use crate::numbers::{Reader, Stop};
-use crate::touch::{Event, Point};
-
-const VERSION: u8 = 8;
-const KIND: u8 = 12;
-const FILE: u8 = 13;
-const TRACE_MOST: usize = 65_536;
-
-fn point(r: &mut Reader) -> Result<Point, Stop> {
-    Ok(Point { x: r.next(65_535)? as u16, y: r.next(65_535)? as u16 })
-}
-
-/// A report: its points in use, and what is unused zero.
-pub fn report(r: &mut Reader) -> Result<(u64, Event), Stop> {
-    let now = r.next(u64::MAX)?;
-    let mut ev = Event { keys: r.next(255)? as u8, points: r.next(255)? as u8, ..Event::default() };
-    for i in 0..usize::from(ev.points).min(5) {
-        ev.pts[i] = point(r)?;
-    }
-    ev.p = ev.pts[0];
-    if ev.points == 1 {
-        ev.pts = Default::default();
-    }
-    Ok((now, ev))
-}
-
-fn on_panel(p: Point) -> bool {
-    p.x < 480 && p.y < 320
-}
-
-fn report_ok(ev: &Event) -> bool {
-    match ev.points {
-        1 => on_panel(ev.p),
-        n => ev.pts[..usize::from(n).min(5)].iter().all(|&p| on_panel(p)),
-    }
-}
+use crate::gesture::{Axis, Gesture};
+use crate::touch::Point;
+use crate::trace::{records, Told};
 
 struct Text<'a> {
     out: &'a mut [u8],
@@ -122,63 +88,17 @@ impl Text<'_> {
     }
 }
 
-fn record(r: &mut Reader, t: &mut Tracker, i: u64, text: &mut Text) -> Result<(), Stop> {
-    let place = r.at;
-    let g = match r.next(u64::MAX)? {
-        1 => {
-            let (now, ev) = report(r)?;
-            if !report_ok(&ev) {
-                text.number(i);
-                text.word(b" refused 2\n");
-                return Ok(());
-            }
-            t.event(&ev, now)
-        }
-        2 => {
-            let now = r.next(u64::MAX)?;
-            t.tick(now)
-        }
-        3 => {
-            t.capture();
-            None
-        }
-        4 => {
-            t.capture_direct();
-            None
-        }
-        5 => {
-            gesture::raw_next(r.next(1)? == 1);
-            None
-        }
-        6 => {
-            gesture::set_grab_ms(r.next(65_535)? as u16);
-            None
-        }
-        _ => return Err(Stop { why: KIND, at: place }),
-    };
-    if let Some(g) = g {
-        text.number(i);
-        text.gesture(g);
-        text.word(b"\n");
+impl Told for Text<'_> {
+    fn gave(&mut self, i: u64, g: Gesture) {
+        self.number(i);
+        self.gesture(g);
+        self.word(b"\n");
     }
-    Ok(())
-}
 
-fn records(bytes: &[u8], text: &mut Text) -> Result<u64, Stop> {
-    if bytes.len() > TRACE_MOST {
-        return Err(Stop { why: FILE, at: 0 });
+    fn refused(&mut self, i: u64) {
+        self.number(i);
+        self.word(b" refused 2\n");
     }
-    let mut t = Tracker::new();
-    let mut r = Reader { bytes, at: 0 };
-    if r.next(u64::MAX)? != 1 {
-        return Err(Stop { why: VERSION, at: 0 });
-    }
-    let mut i = 0;
-    while !r.done() {
-        i += 1;
-        record(&mut r, &mut t, i, text)?;
-    }
-    Ok(i)
 }
 
 pub fn play(bytes: &[u8], out: &mut [u8]) -> usize {

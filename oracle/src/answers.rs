@@ -5,6 +5,7 @@ use crate::image;
 use crate::numbers::{unfolded, Reader, Stop};
 use crate::touch::{self, Event, Point};
 use crate::touchcal::{self, Bad, Cal};
+use crate::trace::{on_panel, report_ok};
 use std::cell::Cell;
 use std::io::Write;
 use std::panic::catch_unwind;
@@ -50,10 +51,6 @@ fn tried<T>(f: impl FnOnce() -> T + std::panic::UnwindSafe) -> Option<T> {
     r
 }
 
-pub fn on_panel(p: Point) -> bool {
-    p.x < 480 && p.y < 320
-}
-
 pub fn words(g: &Gesture) -> String {
     let axis = |a: &Axis| if *a == Axis::H { 'H' } else { 'V' };
     match g {
@@ -74,14 +71,6 @@ pub fn words(g: &Gesture) -> String {
         Gesture::Move(p, q) => format!("Move {} {} {} {}", p.x, p.y, q.x, q.y),
         Gesture::Pinch(a, s, t) => format!("Pinch {} {s} {t}", axis(a)),
         Gesture::PinchEnd(r) => format!("PinchEnd {}", *r as u8),
-    }
-}
-
-/// A report's points in use are on the panel.
-pub fn report_ok(ev: &Event) -> bool {
-    match ev.points {
-        1 => on_panel(ev.p),
-        n => ev.pts[..usize::from(n).min(5)].iter().all(|&p| on_panel(p)),
     }
 }
 

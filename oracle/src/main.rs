@@ -15,6 +15,7 @@ mod play;
 mod record;
 mod touch;
 mod touchcal;
+mod trace;
 
 use compare::{Programs, Tally};
 use std::io::{Read, Write};

@@ -1,8 +1,8 @@
 -- Few pixels through a slight calibration: no product and no partial sum leaves i32. And a line that fits, taken apart.
 -- Assumes nothing.
 use Prim.Native.Nat.{suc, _*_, _≤_, _<_}
-use mathlib.Core.Path.{_≡_, refl, _∙_}
-use mathlib.Core.Bool.{Bool, true, false, _&&_}
+use mathlib.Core.Path.{_≡_, _∙_}
+use mathlib.Core.Bool.{true}
 use native.Mathlib.Nat.{le-refl, le-trans, mul-le-mul}
 use native.Mathlib.Omega.{arith}
 use lib.IntN.{ℤ, pos, _+ℤ_, _*ℤ_}
@@ -18,16 +18,6 @@ use Rattle.calmap.specs.Wide.{in32, in16}
 use Rattle.calmap.specs.declared.units.Cal.{Cal}
 use Rattle.calmap.specs.declared.units.Q16.{Q16}
 use Rattle.calmap.proofs.Signed.{mag-add, mag-mul, in32-yes}
-
--- `&` of the code and `and` of specs/
-pub six : (a b c d e f : Bool) → ((((a && b) && c) && d) && e) && f ≡ _and_ a (_and_ b (_and_ c (_and_ d (_and_ e f))))
-unfolding _and_
-six true true true true true f = refl
-six true true true true false f = refl
-six true true true false e f = refl
-six true true false d e f = refl
-six true false c d e f = refl
-six false b c d e f = refl
 
 -- 2^29 and a little, 2^28, 2^28 and 2^29
 slight-line : (v : ℤ) (p q k : Q16) (x y : ℤ) → mag v < nearEnd → mag (p .0) < end16 → mag (q .0) < end16 → mag (k .0) < shortEnd → mag x < nearEnd → mag y < nearEnd → lineFits v p q k x y ≡ true

@@ -5,7 +5,7 @@ use mathlib.Core.Bool.{Bool, true, false, not}
 use Prim.Native.Nat.{ℕ, _-_, _≤_, _<_}
 use native.Mathlib.Omega.{arith}
 use Rattle.panel.specs.Tests as tests
-use Rattle.panel.specs.Tests.{if_then_else_, _or_}
+use Rattle.panel.specs.Tests.{_or_}
 use Rattle.panel.specs.Sizes.{width, maxPoints}
 use Rattle.panel.specs.Points.{onPanel}
 use Rattle.panel.specs.declared.points.Point.{Point}
@@ -13,6 +13,7 @@ use Rattle.panel.specs.declared.axes.Axis.{Axis}
 use Rattle.panel.specs.declared.axes.Axis.the-variants.{H, «V»}
 use Rattle.panel.specs.declared.axes.AxisLock.{AxisLock}
 use Rattle.panel.specs.declared.axes.AxisLock.the-variants.{Free, On}
+use Rattle.panel.proofs.Follow.{if-all}
 use Rattle.panel.proofs.Laws.{on-panel-x, on-panel-y, difference-at-most, distance-on-panel}
 use Rattle.fingers.specs.Fields.{reset, setGrabbed, setLongSent, setAxis, setCaptured, setDirect}
 use Rattle.fingers.specs.Holds.{heldStill}
@@ -26,12 +27,6 @@ use Rattle.fingers.specs.declared.pair.Pairing.{Pairing}
 use Rattle.fingers.specs.declared.pair.Pairing.the-variants.{Unpaired, Paired}
 use Rattle.fingers.specs.declared.several.Multi.{Multi}
 use Rattle.fingers.specs.declared.several.MultiStep.{MultiStep}
-
--- what holds of both holds of the choice
-pub if-all : {A : Type 0} (P : A → Type 0) (b : Bool) {x y : A} → P x → P y → P (if_then_else_ b x y)
-unfolding tests.if_then_else_
-if-all P true p q = p
-if-all P false p q = q
 
 -- One finger: its last point on the panel, far less than the panel is wide, raw only if captured.
 

@@ -1,14 +1,16 @@
 -- The masks key by key: what it is to be in one mask and not in another, and what a flipped bit leaves. A key is in a mask
 -- where its bit is 1. Assumes nothing.
-use mathlib.Core.Path.{_≡_, refl, _∙_, ap}
+use mathlib.Core.Path.{_≡_, refl, subst, _∙_, ap}
 use mathlib.Core.Bool.{Bool, true, false}
 use Prim.Native.Nat.{ℕ, zero, suc, _+_, _-_, _*_, _/_, _%_, _^_, _≤_, _<_, min}
 use native.Mathlib.Omega.{arith}
 use borrow.Author.Tests.{eq-eqb, ne-eqb}
 use lib.Bits.{bitAnd, bitXor, differ, and-shr, xor-shr, and-step, xor-step}
-use lib.Dec.{T, eqb, eqb→eq}
+use lib.Dec.{eqb, eqb→eq}
+use Rattle.panel.specs.Tests.{if_then_else_}
 use Rattle.fingers.specs.Sizes.{keyCount, allKeys}
-use Rattle.fingers.specs.Keys.{without, flipped}
+use Rattle.fingers.specs.Keys.{without, flipped, keyStep}
+use Rattle.fingers.specs.declared.keys.KeyStep.the-variants.{Same}
 use Rattle.fingers.proofs.Bytes.{every, below}
 
 abbrev pub bitAt : ℕ → ℕ → ℕ
@@ -85,3 +87,13 @@ pub flipped-rest : (mask key k : ℕ) → key < keyCount → k < keyCount → (k
 unfolding flipped
 flipped-rest mask key k h hk other =
     xor-bit mask (2 ^ key) k ∙ ap (λ (n : ℕ). differ (bitAt mask k) n) (power-bit key k h hk ∙ ap digit (ne-eqb k key other)) ∙ differ-zero (bitAt mask k)
+
+-- A mask lacks nothing that it has.
+
+pub none-new : (mask : ℕ) → mask < 256 → without mask mask ≡ 0
+unfolding without
+none-new mask h = eqb→eq (without mask mask) 0 (below (λ (m : ℕ). eqb (without m m) 0) 256 tt mask h)
+
+pub same-masks : (keys want : ℕ) → keys < 256 → keys ≡ want → keyStep keys want ≡ Same
+unfolding keyStep if_then_else_
+same-masks keys want h e = subst (λ (w : ℕ). keyStep keys w ≡ Same) e (rw (none-new keys h) refl)

@@ -1,8 +1,6 @@
 -- What the crates above may cite: `Bytes` and `KeyMasks`, what the lowest key of a mask is and what the masks hold key by
--- key; `Kept`, what the rules keep; `Promises`, that each contract leaves one answer. The other module serves this crate's
--- own proofs.
+-- key; `Kept`, what the rules keep; `Promises`, that each contract leaves one answer.
 pub mod Bytes
 pub mod KeyMasks
 pub mod Kept
 pub mod Promises
-mod Measures

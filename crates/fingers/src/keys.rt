@@ -39,6 +39,9 @@ fn flip(mask: u8, key: u8) -> u8
 pub fn key_step(keys: u8, want: u8) -> KeyStep
     ensures { λ r. ⌜ r ≡ keyStep keys want ⌝ }
 {
+    if keys == want {
+        return KeyStep::Same;
+    }
     let up = clear(keys, want);
     if 0 < up {
         let code = lowest_of(up);

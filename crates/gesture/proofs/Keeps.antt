@@ -5,7 +5,8 @@ use mathlib.Core.Bool.{Bool, true}
 use Prim.Native.Nat.{ℕ}
 use native.Mathlib.Omega.{arith}
 use Rattle.panel.specs.declared.points.Event.{Event}
-use Rattle.fingers.proofs.Kept.{if-all, reset-fine, captured-fine, direct-fine}
+use Rattle.panel.proofs.Follow.{if-know, if-all}
+use Rattle.fingers.proofs.Kept.{reset-fine, captured-fine, direct-fine}
 use Rattle.gesture.specs.States.{stateRule}
 use Rattle.gesture.specs.Trackers.{origin, freshTracker, setOne, setGrab}
 use Rattle.gesture.specs.Captures.{taken, wished, afterCaptureDirect, afterSetGrab}
@@ -14,7 +15,7 @@ use Rattle.gesture.specs.declared.record.Tracker.{Tracker}
 use Rattle.gesture.specs.declared.answers.Answer.{Answer}
 use Rattle.gesture.specs.declared.answers.GrabAnswer.{GrabAnswer}
 use Rattle.gesture.proofs.Facts.{facts, kept}
-use Rattle.gesture.proofs.Steps.{if-know, origin-on, report-fine, tick-fine}
+use Rattle.gesture.proofs.Steps.{origin-on, report-fine, tick-fine}
 
 pub fresh-kept : stateRule freshTracker ≡ true
 unfolding freshTracker
@@ -25,7 +26,7 @@ Kept a = stateRule (a .tracker) ≡ true
 
 pub event-kept : (t : Tracker) (ev : Event) (now : ℕ) → stateRule t ≡ true → Kept (eventOf t ev now)
 unfolding eventOf reported answered refused
-event-kept t ev now h = if-all Kept _ (if-know Kept _ (λ on. kept _ (report-fine t ev now (facts t h) on)) (λ off. h)) h
+event-kept t ev now h = if-all Kept _ (if-know Kept _ _ _ (λ on. kept _ (report-fine t ev now (facts t h) on)) (λ off. h)) h
 
 pub tick-kept : (t : Tracker) (now : ℕ) → stateRule t ≡ true → Kept (tickOf t now)
 unfolding tickOf ticked answered refused

@@ -5,5 +5,4 @@ pub mod Promises
 mod Rule
 mod Facts
 mod Steps
-mod Counts
 mod Table

@@ -7,7 +7,7 @@ use Rattle.panel.specs.Tests.{if_then_else_}
 use Rattle.panel.specs.Points.{allOnPanel}
 use Rattle.panel.specs.declared.points.Event.{Event}
 use Rattle.panel.proofs.Promises.{one-answer}
-use Rattle.fingers.proofs.Kept.{if-all}
+use Rattle.panel.proofs.Follow.{if-all}
 use Rattle.gesture.specs.Trackers.{freshTracker}
 use Rattle.gesture.specs.States.{stateRule}
 use Rattle.gesture.specs.Reports.{reportStep}

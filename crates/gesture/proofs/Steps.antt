@@ -1,11 +1,11 @@
 -- What a report and a tick leave of a tracker that keeps the state rule keeps it, rule by rule. Assumes nothing.
 use mathlib.Core.Path.{_≡_, refl, sym, _∙_}
-use mathlib.Core.Bool.{Bool, true, false}
+use mathlib.Core.Bool.{true, false}
 use mathlib.Core.List.{List, [], _∷_}
 use Prim.Native.Nat.{ℕ, _≤_}
 use native.Mathlib.Omega.{arith}
 use Rattle.panel.specs.Tests as tests
-use Rattle.panel.specs.Tests.{if_then_else_, _and_, _=?_}
+use Rattle.panel.specs.Tests.{_and_, _=?_}
 use Rattle.panel.specs.Sizes.{maxPoints}
 use Rattle.panel.specs.Points.{onPanel, allOnPanel, firstPoints, fingers}
 use Rattle.panel.specs.declared.points.Point.{Point}
@@ -15,7 +15,7 @@ use Rattle.fingers.specs.declared.keys.KeyStep.{KeyStep}
 use Rattle.fingers.specs.declared.keys.KeyStep.the-variants.{Same, Flipped}
 use Rattle.fingers.specs.declared.gestures.Outcome.{Outcome}
 use Rattle.fingers.specs.declared.several.MultiStep.{MultiStep}
-use Rattle.fingers.proofs.Kept.{if-all, FinePairing, FineMulti, FineMultiStep, reset-fine, later-fine, still-fine, new-fine, from-fine, two-fine, three-fine}
+use Rattle.fingers.proofs.Kept.{FinePairing, FineMulti, FineMultiStep, reset-fine, later-fine, still-fine, new-fine, from-fine, two-fine, three-fine}
 use Rattle.gesture.specs.Trackers.{origin, setTouch, setKeys}
 use Rattle.gesture.specs.Reports.{finger, allUp, residualTouch, newTouch, touchDown, goesOn, oneFinger, twoStart, two, twoOf, moreStart, more, moreOf, several, fingersOf, keysThenFingers, reportStep}
 use Rattle.gesture.specs.Ticks.{stillDown, keysThenHold, tickStep}
@@ -27,8 +27,8 @@ use Rattle.gesture.specs.declared.record.Step.{Step}
 use mathlib.Core.Path.{ap}
 use lib.ListN.{take}
 use borrow.Author.Tests.{eqb-true, eqb-false}
-use Rattle.panel.proofs.Follow.{if-true, if-false}
-use Rattle.gesture.proofs.Counts.{one-point, fingers-twice, fingers-range}
+use Rattle.panel.proofs.Follow.{if-true, if-false, if-know, if-all}
+use Rattle.panel.proofs.Counts.{one-point, fingers-twice, fingers-range}
 use Rattle.gesture.proofs.Facts.{FineTouch, Fine}
 
 abbrev pub FineAfter : Step → Type 0
@@ -79,11 +79,6 @@ module _ (n : ℕ) (c : Point) (now : ℕ) (least : 2 ≤ n) (most : n ≤ maxPo
   more-touch-fine (Down start since) d = more-start-fine _
   more-touch-fine (Multi m pair) d = three-fine n c now least most hc pair m (d .0) (d .1)
 
-pub if-know : {A : Type 0} (P : A → Type 0) (b : Bool) {x y : A} → (b ≡ true → P x) → (b ≡ false → P y) → P (if_then_else_ b x y)
-unfolding tests.if_then_else_
-if-know P true p q = p refl
-if-know P false p q = q refl
-
 -- The points in use, and the first two of them; where a list is shorter, (0, 0) stands in, which is on the panel too.
 
 pub origin-on : onPanel origin ≡ true
@@ -122,9 +117,9 @@ more-of-fine t n pts now f least most h = several-fine _ t (more-touch-fine n _ 
 fingers-fine : (t : Tracker) (ev : Event) (now : ℕ) → Fine t → allOnPanel (pointsInUse ev) ≡ true → FineAfter (fingersOf t ev now)
 unfolding fingersOf
 fingers-fine t ev now f h =
-    if-know FineAfter _ (λ e0. up-fine t now f) (λ n0.
-    if-know FineAfter _ (λ e1. one-fine (t .touch) t (ev .p) now (f .0) f (use-one ev e1 h)) (λ n1.
-    if-know FineAfter _ (λ e2. two-of-fine t (ev .pts) now f (ap (λ (k : ℕ). allOnPanel (firstPoints k (ev .pts))) (sym (eqb-true _ _ e2)) ∙ use-several ev n1 h)) (λ n2.
+    if-know FineAfter _ _ _ (λ e0. up-fine t now f) (λ n0.
+    if-know FineAfter _ _ _ (λ e1. one-fine (t .touch) t (ev .p) now (f .0) f (use-one ev e1 h)) (λ n1.
+    if-know FineAfter _ _ _ (λ e2. two-of-fine t (ev .pts) now f (ap (λ (k : ℕ). allOnPanel (firstPoints k (ev .pts))) (sym (eqb-true _ _ e2)) ∙ use-several ev n1 h)) (λ n2.
     let r = fingers-range (ev .points) (eqb-false _ _ n0) (eqb-false _ _ n1) (eqb-false _ _ n2) in
     more-of-fine t (fingers (ev .points)) (ev .pts) now f (r .0) (r .1) (ap (λ (k : ℕ). allOnPanel (take k (ev .pts))) (fingers-twice (ev .points)) ∙ use-several ev n1 h))))
 

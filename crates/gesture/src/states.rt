@@ -34,13 +34,7 @@ fn one_ok(o: One) -> bool
     ensures { λ r. ⌜ r ≡ onePart o ⌝ }
 {
     let last = o.last;
-    if panel::on_panel(last) {
-        if o.far < WIDTH {
-            return raw_ok(o);
-        }
-        return false;
-    }
-    false
+    panel::on_panel(last) & (o.far < WIDTH) & raw_ok(o)
 }
 
 fn places_ok(r: Pair) -> bool
@@ -49,22 +43,13 @@ fn places_ok(r: Pair) -> bool
     let a = r.a;
     let b = r.b;
     let c0 = r.c0;
-    if panel::on_panel(a) {
-        if panel::on_panel(b) {
-            return panel::on_panel(c0);
-        }
-        return false;
-    }
-    false
+    panel::on_panel(a) & panel::on_panel(b) & panel::on_panel(c0)
 }
 
 fn pair_ok(r: Pair) -> bool
     ensures { λ s. ⌜ s ≡ pairPart r ⌝ }
 {
-    if places_ok(r) {
-        return r.span0 < WIDTH && r.state <= STATE_MOST;
-    }
-    false
+    places_ok(r) & (r.span0 < WIDTH) & (r.state <= STATE_MOST)
 }
 
 fn pairing_ok(pr: Pairing) -> bool
@@ -81,22 +66,13 @@ fn centroids_ok(m: Multi) -> bool
 {
     let c0 = m.c0;
     let c1 = m.c1;
-    if panel::on_panel(c0) {
-        return panel::on_panel(c1);
-    }
-    false
+    panel::on_panel(c0) & panel::on_panel(c1)
 }
 
 fn multi_ok(m: Multi) -> bool
     ensures { λ r. ⌜ r ≡ multiPart m ⌝ }
 {
-    if FINGERS_LEAST <= m.n {
-        if m.n <= FINGERS_MOST {
-            return centroids_ok(m);
-        }
-        return false;
-    }
-    false
+    (FINGERS_LEAST <= m.n) & (m.n <= FINGERS_MOST) & centroids_ok(m)
 }
 
 fn several_ok(m: Multi, pr: Pairing) -> bool

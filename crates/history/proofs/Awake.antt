@@ -5,14 +5,13 @@ use mathlib.Core.Path.{_≡_, refl, sym, ap, ap₂, subst, _∙_}
 use mathlib.Core.Bool.{false}
 use mathlib.Core.List.{List, [], _∷_, _++_}
 use borrow.Author.Tests.{le-ltb}
-use Rattle.fingers.proofs.Kept.{if-all}
 use Rattle.fingers.specs.declared.gestures.Gesture.the-variants.{Down}
 use Rattle.gesture.specs.Calls.{Call, report, answerOf}
 use Rattle.gesture.specs.Trackers.{freshTracker}
 use Rattle.gesture.specs.declared.answers.Given.{Given}
 use Rattle.gesture.specs.declared.answers.Given.the-variants.{Gave}
 use Rattle.gesture.specs.declared.record.Tracker.{Tracker}
-use Rattle.panel.proofs.Follow.{if-true, if-false}
+use Rattle.panel.proofs.Follow.{if-true, if-false, if-all}
 use Rattle.panel.specs.Tests.{_=?_}
 use Rattle.panel.specs.declared.points.Event.{Event}
 use Rattle.history.specs.Gestures.{tellsKey}

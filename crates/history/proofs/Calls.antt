@@ -4,7 +4,6 @@ use Prim.Native.Nat.{ℕ, _<_}
 use mathlib.Core.Path.{_≡_, refl, sym, ap, subst, _∙_}
 use mathlib.Core.Bool.{Bool, true, false, true≢false}
 use mathlib.Core.List.{List, [], _∷_}
-use Rattle.fingers.proofs.Kept.{if-all}
 use Rattle.fingers.specs.Keys.{keyStep}
 use Rattle.fingers.specs.declared.gestures.Gesture.{Gesture}
 use Rattle.fingers.specs.declared.gestures.Gesture.the-variants.{Down, Tap, LongPress, Drag, Grab, Up, SwipeLeft, SwipeRight, SwipeUp, SwipeDown, Cancel, MultiSwipeDown, KeyDown, KeyUp, Move, Pinch, PinchEnd}
@@ -26,7 +25,7 @@ use Rattle.gesture.specs.declared.record.MultiEnd.{MultiEnd}
 use Rattle.gesture.specs.declared.record.Step.{Step}
 use Rattle.gesture.specs.declared.record.Touch.{Touch}
 use Rattle.gesture.specs.declared.record.Tracker.{Tracker}
-use Rattle.panel.proofs.Follow.{if-true, if-false}
+use Rattle.panel.proofs.Follow.{if-true, if-false, if-all}
 use Rattle.panel.specs.Points.{allOnPanel}
 use Rattle.panel.specs.Tests.{if_then_else_}
 use Rattle.panel.specs.declared.points.Event.{Event}

@@ -4,7 +4,6 @@ use mathlib.Core.Path.{_≡_, refl, sym, ap, subst, _∙_}
 use mathlib.Core.Bool.{Bool, true, false, not, true≢false}
 use native.Mathlib.Omega.{arith}
 use borrow.Author.Tests.{ltb-true, ltb-false, lt-ltb, le-ltb, eq-eqb, ne-eqb}
-use Rattle.fingers.proofs.Kept.{if-all}
 use Rattle.fingers.specs.Sizes.{liftGap}
 use Rattle.fingers.specs.declared.gestures.Gesture.the-variants.{Down}
 use Rattle.fingers.specs.declared.gestures.Outcome.{Outcome}
@@ -22,7 +21,7 @@ use Rattle.gesture.specs.declared.record.Step.{Step}
 use Rattle.gesture.specs.declared.record.Touch as record-touch
 use Rattle.gesture.specs.declared.record.Touch.the-variants as touch
 use Rattle.gesture.specs.declared.record.Tracker.{Tracker}
-use Rattle.panel.proofs.Follow.{if-true, if-false, if-know, if-two}
+use Rattle.panel.proofs.Follow.{if-true, if-false, if-know, if-two, if-all}
 use Rattle.panel.specs.Tests.{_and_, _or_, _<?_}
 use Rattle.panel.specs.Tests as tests
 use Rattle.panel.specs.declared.points.Event.{Event}

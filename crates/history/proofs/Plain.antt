@@ -3,7 +3,7 @@
 use Prim.Native.Nat.{ℕ}
 use mathlib.Core.Path.{_≡_, refl}
 use mathlib.Core.Bool.{false}
-use Rattle.fingers.proofs.Kept.{if-all}
+use Rattle.panel.proofs.Follow.{if-all}
 use Rattle.fingers.specs.Holds.{heldStill}
 use Rattle.fingers.specs.OneFinger.{moveFrom, dragAlong, moving, grabOrMoving, laterReport}
 use Rattle.fingers.specs.Pairs.{pinchOf}

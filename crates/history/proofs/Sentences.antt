@@ -9,13 +9,12 @@ use native.Mathlib.Omega.{arith}
 use native.Mathlib.Nat.{not-suc-le-zero}
 use lib.ListN.{length}
 use borrow.Author.Tests.{eq-eqb, ne-eqb}
-use Rattle.fingers.proofs.Kept.{if-all}
 use Rattle.fingers.specs.declared.gestures.Gesture.{Gesture}
 use Rattle.fingers.specs.declared.gestures.Gesture.the-variants.{Down}
 use Rattle.gesture.specs.Calls.{Call, report, tick, capture, captureDirect, rawNext, setGrabMs}
 use Rattle.gesture.specs.declared.answers.Given.{Given}
 use Rattle.gesture.specs.declared.answers.Given.the-variants.{Gave}
-use Rattle.panel.proofs.Follow.{if-true, if-false}
+use Rattle.panel.proofs.Follow.{if-true, if-false, if-all}
 use Rattle.panel.specs.Tests.{_or_}
 use Rattle.panel.specs.declared.points.Event.{Event}
 use Rattle.history.specs.Demand.{Repeats, NextChange, Tells, TellsAll, KeysTold, hadSeveral, exceptedWithOne, exceptedNeverMore, DownAtOnce, Promised, Kept, Demand}

@@ -1,18 +1,17 @@
 -- A point through a calibration, as the host has it, from what `apply16` answered. Assumes nothing.
 use Prim.Native.Nat.{ℕ}
 use mathlib.Core.Path.{_≡_, sym, _∙_, ap}
-use mathlib.Core.List.{List, [], _∷_}
+use mathlib.Core.List.{[], _∷_}
 use lib.IntN.{ℤ, pos}
 use mir.Syntax.{w32}
 use mir.Val.{toZ, ofZ, SFits}
 use mir.ValLaws.{toZ-ofZ}
 use Rattle.panel.specs.Refusals.{numberOf}
 use Rattle.panel.specs.declared.refusals.Refusal.{Refusal}
-use Rattle.calmap.specs.Maps.{applyOf}
 use Rattle.calmap.specs.declared.mapping.ApplyAnswer.{ApplyAnswer}
 use Rattle.calmap.specs.declared.mapping.ApplyAnswer.the-variants.{Answered, Refused}
 use Rattle.calmap.specs.declared.mapping.Spot.{Spot}
-use Rattle.host.specs.Hosts.{applied, calOf, appliedBy}
+use Rattle.host.specs.Hosts.{applied, appliedBy}
 
 -- a signed number, read back from its bits
 pub plain : {x : ℤ} → SFits w32 x → toZ w32 (ofZ w32 x) ≡ x

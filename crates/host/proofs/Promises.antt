@@ -2,24 +2,21 @@
 -- that are no image, the next call finds the tracker that this one left, and each contract leaves one answer. Assumes
 -- nothing.
 use Prim.Native.Nat.{ℕ}
-use mathlib.Core.Path.{_≡_, refl, sym, _∙_, ap}
+use mathlib.Core.Path.{_≡_, refl, _∙_, ap}
 use mathlib.Core.Bool.{true}
-use mathlib.Core.List.{List, []}
+use mathlib.Core.List.{List}
 use lib.IntN.{ℤ}
 use lib.ListN.{length, replicate}
 use borrow.Author.Tests.{eq-eqb}
-use Rattle.panel.specs.Refusals.{numberOf}
-use Rattle.panel.specs.declared.refusals.Refusal.the-variants.{State}
-use Rattle.panel.proofs.Follow.{if-true}
+use Rattle.panel.proofs.Follow.{if-true, if-all}
 use Rattle.panel.proofs.Promises.{one-answer}
-use Rattle.fingers.proofs.Kept.{if-all}
 use Rattle.calmap.specs.declared.mapping.ApplyAnswer.{ApplyAnswer}
 use Rattle.gesture.specs.States.{stateRule}
 use Rattle.gesture.specs.Trackers.{freshTracker}
 use Rattle.gesture.specs.declared.answers.Answer.{Answer}
 use Rattle.gesture.specs.declared.record.Tracker.{Tracker}
 use Rattle.image.specs.Image.{imageOf, imageBytes}
-use Rattle.image.specs.Codec.{decodeOf, Stored, stored, storeOf}
+use Rattle.image.specs.Codec.{decodeOf, stored, storeOf}
 use Rattle.image.specs.Typed.{Bytes, Typed}
 use Rattle.image.specs.declared.codec.DecodeAnswer.{DecodeAnswer}
 use Rattle.image.specs.declared.codec.DecodeAnswer.the-variants.{Answered, Refused}

@@ -4,7 +4,7 @@
 -- gesture, no log line)". "its numbers in the Rust's field order": a gesture is 1 and more, its place in the Rust's list of
 -- gestures; an axis is 0 for H, 1 for V; a truth is 1 or 0.
 use Prim.Native.Nat.{ℕ}
-use mathlib.Core.List.{List, [], _∷_, _++_}
+use mathlib.Core.List.{List, [], _∷_}
 use lib.ListN.{replicate}
 use Rattle.panel.specs.declared.points.Point.{Point}
 use Rattle.fingers.specs.declared.gestures.Gesture.{Gesture}

@@ -1,7 +1,7 @@
 -- Parts that may be absent: an image that is zero there is as if their rows had been written. Assumes nothing.
 use Prim.Native.Nat.{ℕ}
 use mathlib.Core.Path.{_≡_, refl, sym, _∙_, ap}
-use mathlib.Core.List.{List, _++_}
+use mathlib.Core.List.{List}
 use lib.ListN.{replicate}
 use lib.Seq.{sets}
 use Rattle.panel.specs.declared.points.Point.{Point}

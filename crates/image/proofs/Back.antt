@@ -1,7 +1,7 @@
 -- The tracker read from the image of a tracker is that tracker; and what is read from bytes is within its types. Assumes
 -- nothing.
 use Prim.Native.Nat.{ℕ, _+_, _<_}
-use mathlib.Core.Path.{_≡_, refl, sym, _∙_, ap}
+use mathlib.Core.Path.{_≡_, refl, _∙_, ap}
 use mathlib.Core.Bool.{Bool, true, false}
 use mathlib.Core.List.{List, [], _∷_, _++_}
 use lib.Dec.{lit<}
@@ -17,7 +17,7 @@ use Rattle.fingers.specs.declared.several.Multi.{Multi}
 use Rattle.fingers.specs.declared.pair.Pair.{Pair}
 use Rattle.fingers.specs.declared.pair.Pairing.{Pairing}
 use Rattle.fingers.specs.declared.pair.Pairing.the-variants.{Unpaired, Paired}
-use Rattle.fingers.proofs.Kept.{if-all}
+use Rattle.panel.proofs.Follow.{if-all}
 use Rattle.gesture.specs.Lines as lines
 use Rattle.gesture.specs.Lines.{axisNumber, bit}
 use Rattle.gesture.specs.Trackers.{origin}
@@ -29,7 +29,7 @@ use Rattle.gesture.specs.declared.record.Tracker.{Tracker}
 use Rattle.image.specs.Image.{touchNumber, startOf, sinceOf, multiOf, pairingOf, pairNumber, pairOf, endNumber, endTime, lockNumber, zeroMulti, zeroPair, pointRows, downRows, multiRows, pairRows, pairingRows, touchRows, oneRows, endRows, settingRows, table, imageOf}
 use Rattle.image.specs.Rows.{row}
 use Rattle.image.specs.Places.{at-touch, at-last, at-ended, at-keys}
-use Rattle.image.specs.Reading.{numberAt, pointAt, flagFrom, axisFrom, lockFrom, pairingFrom, touchFrom, endFrom, multiAt, pairAt, touchAt, oneAt, trackerAt}
+use Rattle.image.specs.Reading.{pointAt, flagFrom, axisFrom, lockFrom, pairingFrom, touchFrom, endFrom, multiAt, pairAt, touchAt, oneAt, trackerAt}
 use Rattle.image.specs.Typed.{Byte, Time, Bytes, TypedPoint, TypedMulti, TypedPair, TypedPairing, TypedTouch, TypedOne, TypedEnd, Typed}
 use Rattle.image.proofs.Layouts.{total, Fits, fits-join, numbersAt, numbersIn, part-back, number-fits}
 

@@ -19,7 +19,6 @@ use Rattle.panel.proofs.Follow.{if-true, if-false, and-true}
 use Rattle.panel.proofs.Laws.{and-left, and-right}
 use Rattle.fingers.specs.declared.one.One.{One}
 use Rattle.fingers.specs.declared.several.Multi.{Multi}
-use Rattle.fingers.specs.declared.pair.Pair.{Pair}
 use Rattle.fingers.specs.declared.pair.Pairing.{Pairing}
 use Rattle.fingers.specs.declared.pair.Pairing.the-variants.{Unpaired, Paired}
 use Rattle.gesture.specs.Lines as lines

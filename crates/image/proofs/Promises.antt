@@ -7,13 +7,12 @@ use mathlib.Core.List.{List, [], _∷_, _++_}
 use lib.ListN.{length, replicate}
 use borrow.Author.Tests.{eq-eqb}
 use Rattle.panel.specs.Tests.{if_then_else_, _and_}
-use Rattle.panel.specs.Refusals.{Told, numberOf}
+use Rattle.panel.specs.Refusals.{numberOf}
 use Rattle.panel.specs.declared.refusals.Refusal.the-variants.{State}
-use Rattle.panel.proofs.Follow.{if-true, if-of, if-know}
+use Rattle.panel.proofs.Follow.{if-true, if-of, if-know, if-all}
 use Rattle.panel.proofs.Laws.{and-left, and-right}
 use Rattle.panel.proofs.Promises.{one-answer}
 use Rattle.fingers.specs.Fields as fields
-use Rattle.fingers.proofs.Kept.{if-all}
 use Rattle.gesture.specs.States.{stateRule}
 use Rattle.gesture.specs.Trackers as trackers
 use Rattle.gesture.specs.Trackers.{freshTracker, setTouch}

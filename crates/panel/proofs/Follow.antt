@@ -2,7 +2,7 @@
 -- the words of specs/Tests.antt, and the step from a fact about two numbers to the test of it.
 -- Assumes nothing.
 use mathlib.Core.Path.{_≡_, refl}
-use mathlib.Core.Bool.{Bool, true, false, not}
+use mathlib.Core.Bool.{Bool, true, false, not, _&&_}
 use borrow.Author.Tests.{lt-ltb, le-ltb, le-leb, lt-leb, eq-eqb, ne-eqb}
 use Rattle.panel.specs.Tests.{if_then_else_, _and_, _or_}
 
@@ -36,6 +36,18 @@ not-true a e = simp e
 pub not-false : (a : Bool) → a ≡ false → not a ≡ true
 not-false a e = simp e
 
+-- `&` of the code is `and`; the code joins to the left, specs/ to the right
+
+pub both : (a b : Bool) → a && b ≡ _and_ a b
+unfolding _and_
+both true b = refl
+both false b = refl
+
+pub joined : (a b c : Bool) → _and_ (a && b) c ≡ _and_ a (_and_ b c)
+unfolding _and_
+joined true b c = refl
+joined false b c = refl
+
 -- a function of a choice is the choice of its values
 pub if-of : {A B : Type 0} (f : A → B) (b : Bool) (x y : A) → f (if_then_else_ b x y) ≡ if_then_else_ b (f x) (f y)
 unfolding if_then_else_
@@ -47,6 +59,10 @@ pub if-know : {A : Type 0} (P : A → Type 0) (b : Bool) (x y : A) → (b ≡ tr
 unfolding if_then_else_
 if-know P true x y yes-x no-y = yes-x refl
 if-know P false x y yes-x no-y = no-y refl
+
+-- what holds of both sides of a choice holds of the choice
+pub if-all : {A : Type 0} (P : A → Type 0) (b : Bool) {x y : A} → P x → P y → P (if_then_else_ b x y)
+if-all P b {x} {y} both-x both-y = if-know P b x y (λ yes. both-x) (λ no. both-y)
 
 -- two choices by one test
 pub if-two : {A B : Type 0} (P : A → B → Type 0) (b : Bool) (x y : A) (u v : B) → (b ≡ true → P x u) → (b ≡ false → P y v) → P (if_then_else_ b x y) (if_then_else_ b u v)

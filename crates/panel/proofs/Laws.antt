@@ -62,11 +62,25 @@ pub distance2-symmetric : (p q : Point) → distance2 p q ≡ distance2 q p
 unfolding distance2
 distance2-symmetric p q = rw (difference-symmetric (p .x) (q .x), difference-symmetric (p .y) (q .y))
 
--- Bounds on the panel.
+-- Bounds of any two points, on the panel or not: coordinates of at most n are at most n apart.
 
 pub difference-at-most : (n a b : ℕ) → a ≤ n → b ≤ n → difference a b ≤ n
 unfolding difference
 difference-at-most n a b ha hb = omega arith
+
+module _ (n : ℕ) (p q : Point) (px : p .x ≤ n) (py : p .y ≤ n) (qx : q .x ≤ n) (qy : q .y ≤ n) where
+  pub distance-at-most : distance p q ≤ n
+  distance-at-most =
+      rw (distance-is p q) (max-le (difference-at-most n (p .x) (q .x) px qx) (difference-at-most n (p .y) (q .y) py qy))
+
+  pub distance2-at-most : distance2 p q ≤ n * n + n * n
+  unfolding distance2
+  distance2-at-most =
+      let x = difference-at-most n (p .x) (q .x) px qx in
+      let y = difference-at-most n (p .y) (q .y) py qy in
+      omega (arith, mul-le-mul x x, mul-le-mul y y)
+
+-- Bounds on the panel.
 
 module _ (p q : Point) (hp : onPanel p ≡ true) (hq : onPanel q ≡ true) where
   across : difference (p .x) (q .x) ≤ width - 1

@@ -1,7 +1,7 @@
 -- When a float has a pattern, and a pattern a float.
-use Prim.Native.Nat.{ℕ, _≤_, _<_, _%_}
-use mathlib.Core.Bool.{Bool, true, false, not}
-use mathlib.Core.Path.{_≡_, sym, subst, _∙_}
+use Prim.Native.Nat.{ℕ, _≤_, _%_}
+use mathlib.Core.Bool.{Bool, not}
+use mathlib.Core.Path.{sym, subst, _∙_}
 use lib.Dec.{T, ltb}
 use lib.Ieee.{Float, nan, inf, fin, eq, isNan, nanBits, binary32}
 use lib.Ieee.Bits.{nanBits-above}

@@ -5,7 +5,6 @@ use crate::args::NUMBERS;
 use crate::calibration;
 use crate::calibration::Printed;
 use crate::geometry;
-use crate::lines;
 use crate::lists;
 use crate::tracker;
 use crate::tracker::Tracked;

@@ -1,6 +1,6 @@
 -- Document 01's trace, played: its text by the definitions alone, as the document prints it. Assumes nothing.
 use Prim.Native.Nat.{ℕ}
-use mathlib.Core.List.{List, [], _∷_, _++_}
+use mathlib.Core.List.{List, [], _∷_}
 use mathlib.Core.Path.{_≡_, refl, ap, _∙_}
 use lib.Count.{trailingZeros}
 use Rattle.fingers.specs.Fields.{reset, setAxis}

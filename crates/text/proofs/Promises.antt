@@ -8,7 +8,6 @@ use mathlib.Core.Path.{_≡_, refl, sym, ap, _∙_}
 use native.Mathlib.Omega.{arith}
 use lib.ListN.{length, take, drop, length-append}
 use lib.Seq.{length-take-le}
-use Rattle.fingers.proofs.Kept.{if-all}
 use Rattle.gesture.proofs.Keeps.{fresh-kept, event-kept, tick-kept, capture-kept, capture-direct-kept, raw-next-kept, set-grab-kept}
 use Rattle.gesture.proofs.Promises.{event-tells, tick-tells, capture-tells, capture-direct-tells, raw-next-tells, set-grab-tells}
 use Rattle.gesture.specs.Answers.{pointsInUse}
@@ -17,7 +16,7 @@ use Rattle.gesture.specs.States.{stateRule}
 use Rattle.gesture.specs.Trackers.{freshTracker}
 use Rattle.gesture.specs.declared.answers.Answer.{Answer}
 use Rattle.gesture.specs.declared.record.Tracker.{Tracker}
-use Rattle.panel.proofs.Follow.{if-of, if-true, if-two}
+use Rattle.panel.proofs.Follow.{if-of, if-true, if-two, if-all}
 use Rattle.panel.proofs.Promises.{one-answer}
 use Rattle.panel.specs.Points.{allOnPanel}
 use Rattle.panel.specs.Refusals.{Told}

@@ -1,7 +1,7 @@
 -- The loop over a trace's records: what is written so far, and what the records that are left still print. And the room
 -- that a text takes. Assumes nothing.
-use Prim.Native.Nat.{ℕ, zero, suc, _+_, _-_, _*_, _/_, _≤_, _<_}
-use mathlib.Core.List.{List, [], _∷_, _++_, append-assoc}
+use Prim.Native.Nat.{ℕ, suc, _+_, _-_, _*_, _/_, _≤_, _<_}
+use mathlib.Core.List.{List, [], _++_, append-assoc}
 use mathlib.Core.Path.{_≡_, refl, sym, ap, _∙_}
 use native.Mathlib.Numerals.{add-one}
 use native.Mathlib.Omega.{arith}
@@ -29,7 +29,7 @@ use Rattle.text.proofs.Writing.{written-none, written-then, written-as}
 use Rattle.trace.proofs.Promises.{toldCursor, file-tells}
 use Rattle.trace.specs.Records.{recordAt}
 use Rattle.trace.specs.Sizes.{mostBytes}
-use Rattle.trace.specs.Traces.{Ending, ends, stops, Traced, callOf, followed, stoppedAt, andOn, recordsFrom, headOf, traceIn}
+use Rattle.trace.specs.Traces.{ends, Traced, callOf, followed, stoppedAt, andOn, recordsFrom, headOf, traceIn}
 use Rattle.trace.specs.declared.numbers.Cursor.{Cursor}
 use Rattle.trace.specs.declared.numbers.Cursor.the-variants.{At, Stop}
 use Rattle.trace.specs.declared.records.CallKind.{CallKind}

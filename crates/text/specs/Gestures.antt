@@ -6,7 +6,6 @@ use mathlib.Core.List.{List, [], _∷_}
 use Rattle.fingers.specs.declared.gestures.Gesture.{Gesture}
 use Rattle.fingers.specs.declared.gestures.Gesture.the-variants.{Down, Tap, LongPress, Drag, Grab, Up, SwipeLeft, SwipeRight, SwipeUp, SwipeDown, Cancel, MultiSwipeDown, KeyDown, KeyUp, Move, Pinch, PinchEnd}
 use Rattle.panel.specs.declared.axes.Axis.{Axis}
-use Rattle.panel.specs.declared.points.Point.{Point}
 use Rattle.text.specs.Words.{ascii, decimal, letterOf, truth}
 
 abbrev pub axisWord : Axis → List ℕ

@@ -1,5 +1,4 @@
 // The lines of a text: one for each answer that has something to say, and the last one.
-ghost use mathlib.Core.Path.{_≡_};
 ghost use Prim.Native.Nat.{_+_, _≤_, _<_};
 ghost use lib.ListN.{length};
 ghost use Rattle.panel.specs.Refusals.{numberOf};

@@ -1,6 +1,6 @@
 // A trace played: its calls made one after the other on a fresh tracker, and their text written.
 ghost use mathlib.Core.Path.{_≡_};
-ghost use Prim.Native.Nat.{suc, _*_, _≤_};
+ghost use Prim.Native.Nat.{_≤_};
 ghost use lib.ListN.{length};
 ghost use Rattle.gesture.specs.Calls.{answerOf};
 ghost use Rattle.text.specs.Played.{roomFor, playedOf, leftOf};

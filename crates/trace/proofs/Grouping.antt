@@ -13,7 +13,7 @@ use Rattle.panel.proofs.Follow.{follow, and-true, and-false, if-know, if-two}
 use Rattle.panel.specs.Tests.{_and_}
 use Rattle.panel.specs.declared.refusals.Refusal.the-variants.{Cut}
 use Rattle.trace.specs.Groups.{restEnd, withGroup, groupsAt, judgedAs}
-use Rattle.trace.specs.Numbers.{Groups, whole, endless, early, after, groupsIn, valueOf, endsInZero, needless, judged, read, stopped, numberAt, numberFrom}
+use Rattle.trace.specs.Numbers.{Groups, whole, endless, early, after, groupsIn, valueOf, endsInZero, needless, judged, stopped, numberAt, numberFrom}
 use Rattle.trace.specs.Sizes.{group, most64, mostGroups}
 use Rattle.trace.specs.declared.numbers.Cursor.{Cursor}
 use Rattle.trace.specs.declared.numbers.Cursor.the-variants.{At, Stop}

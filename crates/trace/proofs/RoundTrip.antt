@@ -17,7 +17,7 @@ use Rattle.gesture.specs.Calls.{Call, report, tick, capture, captureDirect, raw
 use Rattle.trace.specs.Calls.{coordinates, numbersOf, bytesOfAll, recordOf, recordsOf, traceOf}
 use Rattle.trace.specs.Normal.{Small, Normal, AllNormal}
 use Rattle.trace.specs.Numbers.{bytesOf, numberFrom, read}
-use Rattle.trace.specs.Records.{noPoints, noEvent, pointsFrom, eventOf, whole, reportFrom, tickFrom, rawFrom, grabFrom, ofKind, recordAt}
+use Rattle.trace.specs.Records.{noPoints, noEvent, pointsFrom, eventOf, reportFrom, tickFrom, rawFrom, grabFrom, ofKind, recordAt}
 use Rattle.trace.specs.Sizes.{most64, most16, most8, most1, mostBytes, version, kindReport, kindTick, kindCapture, kindDirect, kindRaw, kindGrab}
 use Rattle.trace.specs.Traces.{Traced, ends, callOf, andOn, recordsFrom, versionOf, headOf, fromHead, traceIn}
 use Rattle.trace.specs.declared.numbers.Cursor.the-variants.{At}

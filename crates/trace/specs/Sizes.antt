@@ -1,5 +1,5 @@
 -- The numbers of document 01 that the trace turns on, each written here and nowhere else.
-use Prim.Native.Nat.{ℕ, _-_}
+use Prim.Native.Nat.{ℕ}
 
 -- "seven-bit groups": a byte below this is a last group, and one from it on has the high bit
 abbrev pub group : ℕ

@@ -2,8 +2,8 @@
 // shortest form.
 ghost use mathlib.Core.Path.{_≡_};
 ghost use Prim.Native.Nat.{_≤_};
-ghost use lib.ListN.{length, drop};
-ghost use Rattle.trace.specs.Sizes.{group, mostGroups};
+ghost use lib.ListN.{drop};
+ghost use Rattle.trace.specs.Sizes.{group};
 ghost use Rattle.trace.specs.Numbers.{stopped, numberAt, numberFrom};
 ghost use Rattle.trace.specs.Groups.{withGroup, groupsAt, judgedAs};
 use panel::Refusal;

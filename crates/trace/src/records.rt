@@ -1,10 +1,9 @@
 // One record of the trace as a call of the tracker.
 ghost use mathlib.Core.Path.{_≡_};
 ghost use Prim.Native.Nat.{_≤_};
-ghost use lib.ListN.{length};
 ghost use Rattle.panel.specs.Sizes.{maxPoints};
 ghost use Rattle.panel.specs.Points.{fingers};
-ghost use Rattle.trace.specs.Records.{nowhere, noPoints, noEvent, pointsFrom, filled, eventOf, refusedAt, whole, reportFrom, tickFrom, rawFrom, grabFrom, ofKind, opened, recordAt};
+ghost use Rattle.trace.specs.Records.{noPoints, noEvent, pointsFrom, filled, refusedAt, whole, reportFrom, tickFrom, rawFrom, grabFrom, ofKind, opened, recordAt};
 ghost use Rattle.trace.specs.Spots.{pointFrom, eventWith};
 ghost use Rattle.trace.specs.Traces.{versionOf, headOf};
 use crate::numbers;

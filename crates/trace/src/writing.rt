@@ -10,7 +10,7 @@ ghost use Rattle.panel.specs.Sizes.{maxPoints};
 ghost use Rattle.panel.specs.Points.{fingers};
 ghost use Rattle.trace.specs.Sizes.{version};
 ghost use Rattle.trace.specs.Numbers.{groupsBy, bytesOf};
-ghost use Rattle.gesture.specs.Calls.{Call, report};
+ghost use Rattle.gesture.specs.Calls.{report};
 ghost use Rattle.trace.specs.Calls.{numbersOf, bytesOfAll, recordOf};
 ghost use Rattle.trace.specs.Traces.{callOf};
 ghost use Rattle.trace.specs.Spots.{firstInUse, fiveAfter};

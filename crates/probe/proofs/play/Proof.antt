@@ -1,17 +1,10 @@
 -- `probe::play` is safe and ends. Assumes nothing.
 use Prim.Native.Nat.{_≤_, _-_}
-use mathlib.Core.Path.{_≡_, refl}
-use native.Mathlib.Omega.{arith}
+use mathlib.Core.Path.{_≡_}
 use borrow.Author.Needs.{needs}
 use lib.ListN.{length}
 use Rattle.probe.proofs.play.Statement.{statement}
 use Rattle.probe.proofs.play.Tie as tie
-use Rattle.probe.proofs.play.Reads as reads
-use Rattle.probe.proofs.play.Lts as lts
-use Rattle.probe.proofs.finish.Reads as finish-reads
-use Rattle.probe.proofs.goes_on.Reads as goes-on-reads
-use Rattle.probe.proofs.runs.fresh.Reads as fresh-reads
-use Rattle.probe.proofs.turn.Reads as turn-reads
 
 abbrev Inv-loop : tie.InvT-loop
 Inv-loop s out₀ r₀ made₀ out r made = (made ≤ length s) × (length out ≡ length out₀)

@@ -5,9 +5,6 @@ use lib.Seq.{length-take-le}
 use borrow.Author.Needs.{needs}
 use Rattle.probe.proofs.write.Statement.{statement}
 use Rattle.probe.proofs.write.Tie as tie
-use Rattle.probe.proofs.write.Reads as reads
-use Rattle.probe.proofs.write.Lts as lts
-use Rattle.io.proofs.write_all.Reads as write-all-reads
 
 slice-aggregate-write-all : tie.Need-slice-aggregate-write-all
 slice-aggregate-write-all c = sym (length-take-le _ _ (omega arith))

@@ -1,7 +1,6 @@
 -- `samples::holds` meets its contract. The loop is inside the text. Assumes nothing.
 use Prim.Native.Nat.{_≤_, _-_}
 use mathlib.Core.Path.{_≡_}
-use native.Mathlib.Omega.{arith}
 use lib.ListN.{length}
 use borrow.Author.Needs.{needs}
 use Rattle.samples.proofs.holds.Statement.{statement}

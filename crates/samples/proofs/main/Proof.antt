@@ -1,7 +1,6 @@
 -- `samples::main` meets its contract. The loop is over the arguments. Assumes nothing.
 use Prim.Native.Nat.{_-_}
 use mathlib.Core.Path.{_≡_}
-use native.Mathlib.Omega.{arith}
 use lib.ListN.{length}
 use borrow.Author.Needs.{needs}
 use Rattle.samples.proofs.main.Statement.{statement}

@@ -1,18 +1,10 @@
 -- `bench::fits::fit` is safe and ends. Assumes nothing.
-use Prim.Native.Nat.{_≤_, _-_}
+use Prim.Native.Nat.{_-_}
 use mathlib.Core.Path.{_≡_}
-use native.Mathlib.Omega.{arith}
 use borrow.Author.Needs.{needs}
 use lib.ListN.{length}
 use Rattle.bench.proofs.fits.fit.Statement.{statement}
 use Rattle.bench.proofs.fits.fit.Tie as tie
-use Rattle.bench.proofs.fits.fit.Reads as reads
-use Rattle.bench.proofs.fits.fit.Lts as lts
-use Rattle.bench.proofs.fits.fitted.Reads as fitted-reads
-use Rattle.bench.proofs.fits.moved.Reads as moved-reads
-use Rattle.bench.proofs.fits.pairs.Reads as pairs-reads
-use Rattle.bench.proofs.fits.targets.Reads as targets-reads
-use Rattle.touchcal.proofs.fit_of.Reads as fit-of-reads
 
 abbrev Inv-loop : tie.InvT-loop
 Inv-loop calls list₀ check sum₀ i₀ list sum i = length list ≡ 64

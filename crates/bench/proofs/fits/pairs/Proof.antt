@@ -1,14 +1,10 @@
 -- `bench::fits::pairs` is safe and ends. Assumes nothing.
-use Prim.Native.Nat.{_≤_, _-_}
+use Prim.Native.Nat.{_-_}
 use mathlib.Core.Path.{_≡_}
-use native.Mathlib.Omega.{arith}
 use borrow.Author.Needs.{needs}
 use lib.ListN.{length}
 use Rattle.bench.proofs.fits.pairs.Statement.{statement}
 use Rattle.bench.proofs.fits.pairs.Tie as tie
-use Rattle.bench.proofs.fits.pairs.Reads as reads
-use Rattle.bench.proofs.fits.pairs.Lts as lts
-use Rattle.bench.proofs.fits.tap.Reads as tap-reads
 
 abbrev Inv-loop : tie.InvT-loop
 Inv-loop v list₀ i₀ list i = length list ≡ 64

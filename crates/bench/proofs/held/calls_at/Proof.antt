@@ -1,17 +1,10 @@
 -- `bench::held::calls_at` is safe and ends. Assumes nothing.
-use Prim.Native.Nat.{_≤_, _-_}
+use Prim.Native.Nat.{_-_}
 use mathlib.Core.Path.{_≡_}
-use native.Mathlib.Omega.{arith}
 use borrow.Author.Needs.{needs}
 use lib.ListN.{length}
 use Rattle.bench.proofs.held.calls_at.Statement.{statement}
 use Rattle.bench.proofs.held.calls_at.Tie as tie
-use Rattle.bench.proofs.held.calls_at.Reads as reads
-use Rattle.bench.proofs.held.calls_at.Lts as lts
-use Rattle.bench.proofs.held.no_event.Reads as no-event-reads
-use Rattle.bench.proofs.held.one_of.Reads as one-of-reads
-use Rattle.bench.proofs.held.place_of.Reads as place-of-reads
-use Rattle.trace.proofs.next_record.Reads as next-record-reads
 
 abbrev Inv-loop : tie.InvT-loop
 Inv-loop s events₀ times₀ at₀ n₀ events times at n = (length events ≡ 16) × (length times ≡ 16)

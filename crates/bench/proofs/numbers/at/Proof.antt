@@ -1,15 +1,10 @@
 -- `bench::numbers::at` is safe and ends. Assumes nothing.
-use Prim.Native.Nat.{_≤_, _-_}
+use Prim.Native.Nat.{_-_}
 use mathlib.Core.Path.{_≡_}
-use native.Mathlib.Omega.{arith}
 use borrow.Author.Needs.{needs}
 use lib.ListN.{length}
 use Rattle.bench.proofs.numbers.at.Statement.{statement}
 use Rattle.bench.proofs.numbers.at.Tie as tie
-use Rattle.bench.proofs.numbers.at.Reads as reads
-use Rattle.bench.proofs.numbers.at.Lts as lts
-use Rattle.bench.proofs.numbers.is_there.Reads as is-there-reads
-use Rattle.trace.proofs.next_number.Reads as next-number-reads
 
 abbrev Inv-loop : tie.InvT-loop
 Inv-loop s v₀ to₀ n₀ v to n = length v ≡ 64

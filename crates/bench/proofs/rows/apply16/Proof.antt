@@ -1,21 +1,8 @@
 -- `bench::rows::apply16` is safe and ends. Assumes nothing.
 use Prim.Native.Nat.{_≤_, _-_}
-use mathlib.Core.Path.{_≡_}
-use native.Mathlib.Omega.{arith}
 use borrow.Author.Needs.{needs}
-use lib.ListN.{length}
 use Rattle.bench.proofs.rows.apply16.Statement.{statement}
 use Rattle.bench.proofs.rows.apply16.Tie as tie
-use Rattle.bench.proofs.rows.apply16.Reads as reads
-use Rattle.bench.proofs.rows.apply16.Lts as lts
-use Rattle.bench.proofs.fold.with.Reads as with-reads
-use Rattle.bench.proofs.numbers.slot.Reads as slot-reads
-use Rattle.bench.proofs.rows.after.Reads as after-reads
-use Rattle.bench.proofs.rows.applied.Reads as applied-reads
-use Rattle.bench.proofs.rows.cal.Reads as cal-reads
-use Rattle.bench.proofs.rows.signs.Reads as signs-reads
-use Rattle.calmap.proofs.apply16.Reads as apply16-reads
-use Rattle.std.proofs.num.wrapping_add_usize.Reads as wrapping-add-usize-reads
 
 abbrev Inv-loop : tie.InvT-loop
 Inv-loop h calls c v sum₀ k₀ i₀ sum k i = i ≤ calls

@@ -1,14 +1,10 @@
 -- `bench::rows::floats` is safe and ends. Assumes nothing.
-use Prim.Native.Nat.{_≤_, _-_}
+use Prim.Native.Nat.{_-_}
 use mathlib.Core.Path.{_≡_}
-use native.Mathlib.Omega.{arith}
 use borrow.Author.Needs.{needs}
 use lib.ListN.{length}
 use Rattle.bench.proofs.rows.floats.Statement.{statement}
 use Rattle.bench.proofs.rows.floats.Tie as tie
-use Rattle.bench.proofs.rows.floats.Reads as reads
-use Rattle.bench.proofs.rows.floats.Lts as lts
-use Rattle.bench.proofs.rows.float.Reads as float-reads
 
 abbrev Inv-loop : tie.InvT-loop
 Inv-loop v r₀ i₀ r i = length r ≡ 64

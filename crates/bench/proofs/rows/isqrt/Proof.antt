@@ -1,17 +1,8 @@
 -- `bench::rows::isqrt` is safe and ends. Assumes nothing.
 use Prim.Native.Nat.{_≤_, _-_}
-use mathlib.Core.Path.{_≡_}
-use native.Mathlib.Omega.{arith}
 use borrow.Author.Needs.{needs}
-use lib.ListN.{length}
 use Rattle.bench.proofs.rows.isqrt.Statement.{statement}
 use Rattle.bench.proofs.rows.isqrt.Tie as tie
-use Rattle.bench.proofs.rows.isqrt.Reads as reads
-use Rattle.bench.proofs.rows.isqrt.Lts as lts
-use Rattle.bench.proofs.fold.with.Reads as with-reads
-use Rattle.bench.proofs.numbers.slot.Reads as slot-reads
-use Rattle.bench.proofs.rows.after.Reads as after-reads
-use Rattle.calmap.proofs.isqrt.Reads as isqrt-reads
 
 abbrev Inv-loop : tie.InvT-loop
 Inv-loop h calls v sum₀ k₀ i₀ sum k i = i ≤ calls

@@ -1,19 +1,8 @@
 -- `bench::rows::q16` is safe and ends. Assumes nothing.
 use Prim.Native.Nat.{_≤_, _-_}
-use mathlib.Core.Path.{_≡_}
-use native.Mathlib.Omega.{arith}
 use borrow.Author.Needs.{needs}
-use lib.ListN.{length}
 use Rattle.bench.proofs.rows.q16.Statement.{statement}
 use Rattle.bench.proofs.rows.q16.Tie as tie
-use Rattle.bench.proofs.rows.q16.Reads as reads
-use Rattle.bench.proofs.rows.q16.Lts as lts
-use Rattle.bench.proofs.fold.with.Reads as with-reads
-use Rattle.bench.proofs.numbers.slot.Reads as slot-reads
-use Rattle.bench.proofs.rows.after.Reads as after-reads
-use Rattle.bench.proofs.rows.floats.Reads as floats-reads
-use Rattle.bench.proofs.rows.stepped.Reads as stepped-reads
-use Rattle.touchcal.proofs.q16.Reads as q16-reads
 
 abbrev Inv-loop : tie.InvT-loop
 Inv-loop h calls v sum₀ k₀ i₀ sum k i = i ≤ calls

@@ -1,22 +1,10 @@
 -- `bench::tracker::reports` is safe and ends. Assumes nothing.
-use Prim.Native.Nat.{_≤_, _-_}
+use Prim.Native.Nat.{_-_}
 use mathlib.Core.Path.{_≡_}
-use native.Mathlib.Omega.{arith}
 use borrow.Author.Needs.{needs}
 use lib.ListN.{length}
 use Rattle.bench.proofs.tracker.reports.Statement.{statement}
 use Rattle.bench.proofs.tracker.reports.Tie as tie
-use Rattle.bench.proofs.tracker.reports.Reads as reads
-use Rattle.bench.proofs.tracker.reports.Lts as lts
-use Rattle.bench.proofs.fold.given.Reads as given-reads
-use Rattle.bench.proofs.fold.with.Reads as with-reads
-use Rattle.bench.proofs.held.slot.Reads as slot-reads
-use Rattle.bench.proofs.tracker.after.Reads as after-reads
-use Rattle.bench.proofs.tracker.in_ring.Reads as in-ring-reads
-use Rattle.bench.proofs.tracker.no_line.Reads as no-line-reads
-use Rattle.bench.proofs.tracker.with_lines.Reads as with-lines-reads
-use Rattle.gesture.proofs.fresh.Reads as fresh-reads
-use Rattle.std.proofs.num.wrapping_add_u32.Reads as wrapping-add-u32-reads
 
 abbrev Inv-loop : tie.InvT-loop
 Inv-loop c calls events times ring₀ lines₀ t₀ sum₀ k₀ i₀ ring lines t sum k i = length ring ≡ 160

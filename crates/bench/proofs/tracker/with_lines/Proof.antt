@@ -1,14 +1,8 @@
 -- `bench::tracker::with_lines` is safe and ends. Assumes nothing.
 use Prim.Native.Nat.{_≤_, _-_}
-use mathlib.Core.Path.{_≡_}
-use native.Mathlib.Omega.{arith}
 use borrow.Author.Needs.{needs}
-use lib.ListN.{length}
 use Rattle.bench.proofs.tracker.with_lines.Statement.{statement}
 use Rattle.bench.proofs.tracker.with_lines.Tie as tie
-use Rattle.bench.proofs.tracker.with_lines.Reads as reads
-use Rattle.bench.proofs.tracker.with_lines.Lts as lts
-use Rattle.bench.proofs.tracker.with_line.Reads as with-line-reads
 
 abbrev Inv-loop : tie.InvT-loop
 Inv-loop sum ring r₀ i₀ r i = i ≤ 160

@@ -4,9 +4,9 @@ use mathlib.Core.Bool.{_&&_}
 use mir.Syntax.{w32}
 use mir.Val.{toZ, ofZ}
 use borrow.Author.Needs.{needs}
+use Rattle.panel.proofs.Follow.{both, joined}
 use Rattle.calmap.specs.Checked.{slight}
 use Rattle.calmap.specs.Wide.{in16}
-use Rattle.calmap.proofs.Slight.{six}
 use Rattle.calmap.proofs.mapping.is_slight.Statement.{statement}
 use Rattle.calmap.proofs.mapping.is_slight.Tie as tie
 
@@ -51,7 +51,7 @@ returns c =
     let e1 = i1 .in-i162 .ensures ∙ ap in16 (read1 (i1 .before)) in
     let e3 = i3 .in-i163 .ensures ∙ ap in16 (read3 (i3 .before)) in
     let e4 = i4 .in-i164 .ensures ∙ ap in16 (read4 (i4 .before)) in
-    (λ i. ((((e0 i && e1 i) && e3 i) && e4 i) && c .before .few-steps .ensures i) && c .few-steps2 .ensures i) ∙ six _ _ _ _ _ _
+    (λ i. ((((e0 i && e1 i) && e3 i) && e4 i) && c .before .few-steps .ensures i) && c .few-steps2 .ensures i) ∙ both _ _ ∙ joined _ _ _ ∙ joined _ _ _ ∙ joined _ _ _ ∙ joined _ _ _
 
 pub is-slight-spec : {M : Type 1} → statement M
 is-slight-spec =

@@ -2,7 +2,7 @@
 use native.Mathlib.Omega.{arith}
 use Rattle.panel.proofs.Follow.{follow}
 use borrow.Author.Needs.{needs}
-use Rattle.fingers.proofs.Measures.{distance-at-most}
+use Rattle.panel.proofs.Laws.{distance-at-most}
 use Rattle.fingers.proofs.one.away.Statement.{statement}
 use Rattle.fingers.proofs.one.away.Tie as tie
 

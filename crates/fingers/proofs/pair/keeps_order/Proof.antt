@@ -3,7 +3,7 @@ use Rattle.panel.proofs.Follow.{follow}
 use Rattle.fingers.specs.Pairs.{keepsOrder}
 use native.Mathlib.Omega.{arith}
 use borrow.Author.Needs.{needs}
-use Rattle.fingers.proofs.Measures.{distance2-at-most}
+use Rattle.panel.proofs.Laws.{distance2-at-most}
 use Rattle.fingers.proofs.pair.keeps_order.Statement.{statement}
 use Rattle.fingers.proofs.pair.keeps_order.Tie as tie
 

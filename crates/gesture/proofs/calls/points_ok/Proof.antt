@@ -1,6 +1,6 @@
 -- `gesture::calls::points_ok` meets its contract. Assumes nothing.
 use Rattle.gesture.specs.Answers.{pointsInUse}
-use Rattle.gesture.proofs.Counts.{one-point}
+use Rattle.panel.proofs.Counts.{one-point}
 use Rattle.panel.proofs.Follow.{follow}
 use borrow.Author.Needs.{needs}
 use Rattle.gesture.proofs.calls.points_ok.Statement.{statement}

@@ -1,5 +1,5 @@
 -- `gesture::reports::by_count` meets its contract. Assumes nothing.
-use Rattle.gesture.proofs.Counts.{fingers-few, fingers-many}
+use Rattle.panel.proofs.Counts.{fingers-few, fingers-many}
 use Rattle.panel.proofs.Follow.{follow}
 use Rattle.gesture.specs.Reports.{twoOf, moreOf, fingersOf}
 use borrow.Author.Needs.{needs}

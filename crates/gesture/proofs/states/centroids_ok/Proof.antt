@@ -1,5 +1,7 @@
 -- `gesture::states::centroids_ok` meets its contract. Assumes nothing.
-use Rattle.panel.proofs.Follow.{follow}
+use mathlib.Core.Path.{_∙_}
+use mathlib.Core.Bool.{_&&_}
+use Rattle.panel.proofs.Follow.{both}
 use Rattle.gesture.specs.Parts.{multiPlaces}
 use borrow.Author.Needs.{needs}
 use Rattle.gesture.proofs.states.centroids_ok.Statement.{statement}
@@ -13,11 +15,7 @@ on-panel-requires-2 c κs = search needs
 
 returns : tie.Need-returns
 unfolding multiPlaces
-returns c = search (follow, ← c .on-panel2 .ensures, ← c .before .before .on-panel .ensures)
-
-returns-2 : tie.Need-returns-2
-unfolding multiPlaces
-returns-2 c = search (follow, ← c .before .on-panel .ensures)
+returns c = (λ i. c .before .on-panel .ensures i && c .on-panel2 .ensures i) ∙ both _ _
 
 pub centroids-ok-spec : {M : Type 1} → statement M
-centroids-ok-spec = tie.close (tie.spec on-panel-requires on-panel-requires-2 returns returns-2)
+centroids-ok-spec = tie.close (tie.spec on-panel-requires on-panel-requires-2 returns)

@@ -1,5 +1,10 @@
 -- `gesture::states::multi_ok` meets its contract. Assumes nothing.
-use Rattle.panel.proofs.Follow.{follow}
+use mathlib.Core.Path.{_∙_}
+use mathlib.Core.Bool.{_&&_}
+use Rattle.panel.proofs.Follow.{both, joined}
+use Rattle.panel.specs.Sizes.{maxPoints}
+use Rattle.panel.specs.Tests.{_≤?_}
+use Rattle.fingers.specs.Sizes.{fewest}
 use Rattle.gesture.specs.Parts.{multiPart}
 use borrow.Author.Needs.{needs}
 use Rattle.gesture.proofs.states.multi_ok.Statement.{statement}
@@ -10,15 +15,9 @@ centroids-ok-requires c κs = search needs
 
 returns : tie.Need-returns
 unfolding multiPart
-returns c = search (follow, ← c .centroids-ok .ensures)
-
-returns-2 : tie.Need-returns-2
-unfolding multiPart
-returns-2 c = search follow
-
-returns-3 : tie.Need-returns-3
-unfolding multiPart
-returns-3 c = search follow
+returns c =
+    let n = c .before .before .before .args .m .n in
+    (λ i. ((fewest ≤? n) && (n ≤? maxPoints)) && c .centroids-ok .ensures i) ∙ both _ _ ∙ joined _ _ _
 
 pub multi-ok-spec : {M : Type 1} → statement M
-multi-ok-spec = tie.close (tie.spec centroids-ok-requires returns returns-2 returns-3)
+multi-ok-spec = tie.close (tie.spec centroids-ok-requires returns)

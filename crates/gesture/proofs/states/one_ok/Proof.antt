@@ -1,5 +1,9 @@
 -- `gesture::states::one_ok` meets its contract. Assumes nothing.
-use Rattle.panel.proofs.Follow.{follow}
+use mathlib.Core.Path.{_∙_}
+use mathlib.Core.Bool.{_&&_}
+use Rattle.panel.proofs.Follow.{both, joined}
+use Rattle.panel.specs.Sizes.{width}
+use Rattle.panel.specs.Tests.{_<?_}
 use Rattle.gesture.specs.Parts.{onePart}
 use borrow.Author.Needs.{needs}
 use Rattle.gesture.proofs.states.one_ok.Statement.{statement}
@@ -13,15 +17,9 @@ raw-ok-requires c κs = search needs
 
 returns : tie.Need-returns
 unfolding onePart
-returns c = search (follow, ← c .raw-ok .ensures, ← c .before .before .before .before .on-panel .ensures)
-
-returns-2 : tie.Need-returns-2
-unfolding onePart
-returns-2 c = search (follow, ← c .before .before .before .on-panel .ensures)
-
-returns-3 : tie.Need-returns-3
-unfolding onePart
-returns-3 c = search (follow, ← c .before .on-panel .ensures)
+returns c =
+    let far = c .before .before .before .before .args .o .far in
+    (λ i. (c .before .before .on-panel .ensures i && (far <? width)) && c .raw-ok .ensures i) ∙ both _ _ ∙ joined _ _ _
 
 pub one-ok-spec : {M : Type 1} → statement M
-one-ok-spec = tie.close (tie.spec on-panel-requires raw-ok-requires returns returns-2 returns-3)
+one-ok-spec = tie.close (tie.spec on-panel-requires raw-ok-requires returns)

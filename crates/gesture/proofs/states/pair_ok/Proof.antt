@@ -1,5 +1,10 @@
 -- `gesture::states::pair_ok` meets its contract. Assumes nothing.
-use Rattle.panel.proofs.Follow.{follow}
+use mathlib.Core.Path.{_∙_}
+use mathlib.Core.Bool.{_&&_}
+use Rattle.panel.proofs.Follow.{both, joined}
+use Rattle.panel.specs.Sizes.{width}
+use Rattle.panel.specs.Tests.{_≤?_, _<?_}
+use Rattle.fingers.specs.Pairs.{noPinch}
 use Rattle.gesture.specs.Parts.{pairPart}
 use borrow.Author.Needs.{needs}
 use Rattle.gesture.proofs.states.pair_ok.Statement.{statement}
@@ -10,15 +15,9 @@ places-ok-requires c κs = search needs
 
 returns : tie.Need-returns
 unfolding pairPart
-returns c = search (follow, ← c .before .before .before .before .places-ok .ensures)
-
-returns-2 : tie.Need-returns-2
-unfolding pairPart
-returns-2 c = search (follow, ← c .before .before .before .places-ok .ensures)
-
-returns-3 : tie.Need-returns-3
-unfolding pairPart
-returns-3 c = search (follow, ← c .before .places-ok .ensures)
+returns c =
+    let r = c .before .before .before .args .r in
+    (λ i. (c .before .before .places-ok .ensures i && (r .span0 <? width)) && (r .state ≤? noPinch)) ∙ both _ _ ∙ joined _ _ _
 
 pub pair-ok-spec : {M : Type 1} → statement M
-pair-ok-spec = tie.close (tie.spec places-ok-requires returns returns-2 returns-3)
+pair-ok-spec = tie.close (tie.spec places-ok-requires returns)

@@ -1,5 +1,7 @@
 -- `gesture::states::places_ok` meets its contract. Assumes nothing.
-use Rattle.panel.proofs.Follow.{follow}
+use mathlib.Core.Path.{_∙_}
+use mathlib.Core.Bool.{_&&_}
+use Rattle.panel.proofs.Follow.{both, joined}
 use Rattle.gesture.specs.Parts.{pairPlaces}
 use borrow.Author.Needs.{needs}
 use Rattle.gesture.proofs.states.places_ok.Statement.{statement}
@@ -16,23 +18,7 @@ on-panel-requires-3 c κs = search needs
 
 returns : tie.Need-returns
 unfolding pairPlaces
-returns c = search (follow, ← c .on-panel3 .ensures, ← c .before .before .on-panel2 .ensures, ← c .before .before .before .before .on-panel .ensures)
-
-returns-2 : tie.Need-returns-2
-unfolding pairPlaces
-returns-2 c = search (follow, ← c .before .on-panel2 .ensures, ← c .before .before .before .on-panel .ensures)
-
-returns-3 : tie.Need-returns-3
-unfolding pairPlaces
-returns-3 c = search (follow, ← c .before .on-panel .ensures)
+returns c = (λ i. (c .before .before .on-panel .ensures i && c .before .on-panel2 .ensures i) && c .on-panel3 .ensures i) ∙ both _ _ ∙ joined _ _ _
 
 pub places-ok-spec : {M : Type 1} → statement M
-places-ok-spec =
-    tie.close
-    (tie.spec
-    on-panel-requires
-    on-panel-requires-2
-    on-panel-requires-3
-    returns
-    returns-2
-    returns-3)
+places-ok-spec = tie.close (tie.spec on-panel-requires on-panel-requires-2 on-panel-requires-3 returns)

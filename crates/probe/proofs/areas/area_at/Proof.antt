@@ -1,18 +1,10 @@
 -- `probe::areas::area_at` is safe and ends. Assumes nothing.
-use Prim.Native.Nat.{_≤_, _-_}
+use Prim.Native.Nat.{_-_}
 use mathlib.Core.Path.{_≡_}
-use native.Mathlib.Omega.{arith}
 use borrow.Author.Needs.{needs}
 use lib.ListN.{length}
 use Rattle.probe.proofs.areas.area_at.Statement.{statement}
 use Rattle.probe.proofs.areas.area_at.Tie as tie
-use Rattle.probe.proofs.areas.area_at.Reads as reads
-use Rattle.probe.proofs.areas.area_at.Lts as lts
-use Rattle.probe.proofs.areas.decoded.Reads as decoded-reads
-use Rattle.probe.proofs.areas.least.Reads as least-reads
-use Rattle.probe.proofs.areas.slot.Reads as slot-reads
-use Rattle.probe.proofs.args.low8.Reads as low8-reads
-use Rattle.trace.proofs.next_number.Reads as next-number-reads
 
 abbrev Inv-loop : tie.InvT-loop
 Inv-loop s n area₀ to₀ i₀ area to i = length area ≡ 256

@@ -5,9 +5,6 @@ use lib.Seq.{length-take-le}
 use borrow.Author.Needs.{needs}
 use Rattle.probe.proofs.areas.decoded.Statement.{statement}
 use Rattle.probe.proofs.areas.decoded.Tie as tie
-use Rattle.probe.proofs.areas.decoded.Reads as reads
-use Rattle.probe.proofs.areas.decoded.Lts as lts
-use Rattle.image.proofs.decode.Reads as decode-reads
 
 slice-aggregate-decode : tie.Need-slice-aggregate-decode
 slice-aggregate-decode c = sym (length-take-le _ _ (omega arith))

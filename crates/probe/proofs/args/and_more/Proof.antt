@@ -1,15 +1,10 @@
 -- `probe::args::and_more` is safe and ends. Assumes nothing.
-use Prim.Native.Nat.{_≤_, _-_}
+use Prim.Native.Nat.{_-_}
 use mathlib.Core.Path.{_≡_}
-use native.Mathlib.Omega.{arith}
 use borrow.Author.Needs.{needs}
 use lib.ListN.{length}
 use Rattle.probe.proofs.args.and_more.Statement.{statement}
 use Rattle.probe.proofs.args.and_more.Tie as tie
-use Rattle.probe.proofs.args.and_more.Reads as reads
-use Rattle.probe.proofs.args.and_more.Lts as lts
-use Rattle.probe.proofs.args.slot.Reads as slot-reads
-use Rattle.trace.proofs.next_number.Reads as next-number-reads
 
 abbrev Inv-loop : tie.InvT-loop
 Inv-loop s from until most v₀ to₀ i₀ v to i = length v ≡ 16

@@ -4,8 +4,6 @@ use Rattle.probe.proofs.Floats.{no-nan}
 use borrow.Author.Needs.{needs}
 use Rattle.probe.proofs.args.float.Statement.{statement}
 use Rattle.probe.proofs.args.float.Tie as tie
-use Rattle.probe.proofs.args.float.Reads as reads
-use Rattle.probe.proofs.args.float.Lts as lts
 
 cast-n : tie.Need-cast-n
 cast-n c = search needs

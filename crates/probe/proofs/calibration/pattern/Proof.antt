@@ -3,11 +3,6 @@ use Rattle.probe.proofs.Floats.{itself}
 use borrow.Author.Needs.{needs}
 use Rattle.probe.proofs.calibration.pattern.Statement.{statement}
 use Rattle.probe.proofs.calibration.pattern.Tie as tie
-use Rattle.probe.proofs.calibration.pattern.Reads as reads
-use Rattle.probe.proofs.calibration.pattern.Lts as lts
-use Rattle.probe.proofs.calibration.wide.Reads as wide-reads
-use Rattle.probe.proofs.lines.number.Reads as number-reads
-use Rattle.probe.proofs.lines.word.Reads as word-reads
 
 float-to-bits-wide : tie.Need-float-to-bits-wide
 float-to-bits-wide c = search (needs, itself)

@@ -1,14 +1,10 @@
 -- `probe::lines::all_hex` is safe and ends. Assumes nothing.
 use Prim.Native.Nat.{_≤_, _-_}
-use native.Mathlib.Omega.{arith}
 use borrow.Author.Needs.{needs}
 use lib.ListN.{length}
-use mathlib.Core.Path.{_≡_, refl}
+use mathlib.Core.Path.{_≡_}
 use Rattle.probe.proofs.lines.all_hex.Statement.{statement}
 use Rattle.probe.proofs.lines.all_hex.Tie as tie
-use Rattle.probe.proofs.lines.all_hex.Reads as reads
-use Rattle.probe.proofs.lines.all_hex.Lts as lts
-use Rattle.probe.proofs.lines.hex.Reads as hex-reads
 
 abbrev Inv-loop : tie.InvT-loop
 Inv-loop out₀ at w to₀ i₀ out to i = (i ≤ length w) × (length out ≡ length out₀)

@@ -1,13 +1,10 @@
 -- `probe::lists::side_by_side` is safe and ends. Assumes nothing.
 use Prim.Native.Nat.{_≤_, _-_}
 use mathlib.Core.Path.{_≡_}
-use native.Mathlib.Omega.{arith}
 use borrow.Author.Needs.{needs}
 use lib.ListN.{length}
 use Rattle.probe.proofs.lists.side_by_side.Statement.{statement}
 use Rattle.probe.proofs.lists.side_by_side.Tie as tie
-use Rattle.probe.proofs.lists.side_by_side.Reads as reads
-use Rattle.probe.proofs.lists.side_by_side.Lts as lts
 
 abbrev Inv-loop : tie.InvT-loop
 Inv-loop a b raw tgt list₀ i₀ list i = (i ≤ 64) × (length list ≡ 64)

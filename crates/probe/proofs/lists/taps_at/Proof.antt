@@ -1,19 +1,10 @@
 -- `probe::lists::taps_at` is safe and ends. Assumes nothing.
 use Prim.Native.Nat.{_≤_, _-_}
 use mathlib.Core.Path.{_≡_}
-use native.Mathlib.Omega.{arith}
 use borrow.Author.Needs.{needs}
 use lib.ListN.{length}
 use Rattle.probe.proofs.lists.taps_at.Statement.{statement}
 use Rattle.probe.proofs.lists.taps_at.Tie as tie
-use Rattle.probe.proofs.lists.taps_at.Reads as reads
-use Rattle.probe.proofs.lists.taps_at.Lts as lts
-use Rattle.probe.proofs.args.low8.Reads as low8-reads
-use Rattle.probe.proofs.lists.no_taps.Reads as no-taps-reads
-use Rattle.probe.proofs.lists.tap_slot.Reads as tap-slot-reads
-use Rattle.probe.proofs.lists.spot_at.Reads as spot-at-reads
-use Rattle.probe.proofs.lists.tap.Reads as tap-reads
-use Rattle.trace.proofs.next_number.Reads as next-number-reads
 
 abbrev Inv-loop : tie.InvT-loop
 Inv-loop s n list₀ to₀ i₀ list to i = (n ≤ 255) × (length list ≡ 65)

@@ -1,19 +1,10 @@
 -- `probe::lists::targets_at` is safe and ends. Assumes nothing.
 use Prim.Native.Nat.{_≤_, _-_}
 use mathlib.Core.Path.{_≡_}
-use native.Mathlib.Omega.{arith}
 use borrow.Author.Needs.{needs}
 use lib.ListN.{length}
 use Rattle.probe.proofs.lists.targets_at.Statement.{statement}
 use Rattle.probe.proofs.lists.targets_at.Tie as tie
-use Rattle.probe.proofs.lists.targets_at.Reads as reads
-use Rattle.probe.proofs.lists.targets_at.Lts as lts
-use Rattle.probe.proofs.args.low8.Reads as low8-reads
-use Rattle.probe.proofs.args.point.Reads as point-reads
-use Rattle.probe.proofs.lists.no_targets.Reads as no-targets-reads
-use Rattle.probe.proofs.lists.target_slot.Reads as target-slot-reads
-use Rattle.probe.proofs.lists.spot_at.Reads as spot-at-reads
-use Rattle.trace.proofs.next_number.Reads as next-number-reads
 
 abbrev Inv-loop : tie.InvT-loop
 Inv-loop s n list₀ to₀ i₀ list to i = (n ≤ 255) × (length list ≡ 64)

@@ -1,5 +1,4 @@
 -- `text::gestures::bit` meets its contract. Assumes nothing.
-use native.Mathlib.Omega.{arith}
 use Rattle.text.specs.Words.{truth}
 use Rattle.panel.specs.Tests.{if_then_else_}
 use borrow.Author.Needs.{needs}

@@ -1,5 +1,4 @@
 -- `text::words::letter` meets its contract. Assumes nothing.
-use mathlib.Core.Path.{_≡_}
 use Rattle.text.specs.Words.{letterOf}
 use borrow.Author.Needs.{needs}
 use Rattle.text.proofs.words.letter.Statement.{statement}

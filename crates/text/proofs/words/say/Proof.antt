@@ -8,8 +8,6 @@ use Rattle.text.proofs.Writing.{say-more, say-all}
 use Prim.Native.Nat.{_≤_, _-_}
 use Rattle.text.proofs.words.say.Statement.{statement}
 use Rattle.text.proofs.words.say.Tie as tie
-use Rattle.text.proofs.words.say.Reads as reads
-use Rattle.text.proofs.words.say.Lts as lts
 
 abbrev Inv-loop : tie.InvT-loop
 Inv-loop out₀ at w i₀ out i = (i ≤ length w) × (out ≡ sets out₀ at (take i w))
