@@ -9,6 +9,12 @@ ghost use Rattle.text.specs.Written.{Written};
 use panel::Axis;
 use panel::Point;
 
+// The digit 0, as it is written.
+const ZERO: u64 = 48;
+
+// The most digits that a number has.
+const DIGITS_MOST: u64 = 20;
+
 // The digits of v, at most `left` of them, the highest first.
 fn digits(out: &mut [u8], at: usize, v: u64, left: u64) -> usize
     requires { ⌜ at + length (digitsBy left v) ≤ length (now out) ⌝ }
@@ -18,11 +24,11 @@ fn digits(out: &mut [u8], at: usize, v: u64, left: u64) -> usize
         return at;
     }
     if v < 10 {
-        out[at] = (v + 48) as u8;
+        out[at] = (v + ZERO) as u8;
         return at + 1;
     }
     let a = digits(out, at, v / 10, left - 1);
-    out[a] = (v % 10 + 48) as u8;
+    out[a] = (v % 10 + ZERO) as u8;
     a + 1
 }
 
@@ -34,28 +40,28 @@ pub(crate) fn number(out: &mut [u8], at: usize, v: u64) -> usize
     ensures { λ r. ⌜ (v < 100 → r ≤ at + 2) ⌝ }
 {
     if v < 10 {
-        out[at] = (v + 48) as u8;
+        out[at] = (v + ZERO) as u8;
         return at + 1;
     }
     if v < 100 {
-        out[at] = (v / 10 + 48) as u8;
-        out[at + 1] = (v % 10 + 48) as u8;
+        out[at] = (v / 10 + ZERO) as u8;
+        out[at + 1] = (v % 10 + ZERO) as u8;
         return at + 2;
     }
     if v < 1000 {
-        out[at] = (v / 10 / 10 + 48) as u8;
-        out[at + 1] = (v / 10 % 10 + 48) as u8;
-        out[at + 2] = (v % 10 + 48) as u8;
+        out[at] = (v / 10 / 10 + ZERO) as u8;
+        out[at + 1] = (v / 10 % 10 + ZERO) as u8;
+        out[at + 2] = (v % 10 + ZERO) as u8;
         return at + 3;
     }
     if v < 10000 {
-        out[at] = (v / 10 / 10 / 10 + 48) as u8;
-        out[at + 1] = (v / 10 / 10 % 10 + 48) as u8;
-        out[at + 2] = (v / 10 % 10 + 48) as u8;
-        out[at + 3] = (v % 10 + 48) as u8;
+        out[at] = (v / 10 / 10 / 10 + ZERO) as u8;
+        out[at + 1] = (v / 10 / 10 % 10 + ZERO) as u8;
+        out[at + 2] = (v / 10 % 10 + ZERO) as u8;
+        out[at + 3] = (v % 10 + ZERO) as u8;
         return at + 4;
     }
-    digits(out, at, v, 20)
+    digits(out, at, v, DIGITS_MOST)
 }
 
 // The bytes of a word.
@@ -99,7 +105,7 @@ pub(crate) fn large(out: &mut [u8], at: usize, v: u64) -> usize
     ensures { λ r. ⌜ r ≤ at + 1 + mostDigits ⌝ }
 {
     out[at] = b' ';
-    digits(out, at + 1, v, 20)
+    digits(out, at + 1, v, DIGITS_MOST)
 }
 
 // A point's x and y.
