@@ -7,11 +7,20 @@ use Rattle.play.proofs.main.Tie as tie
 trace-room-requires : tie.Need-trace-room-requires
 trace-room-requires c κs = search needs
 
-slice-aggregate-read-full : tie.Need-slice-aggregate-read-full
-slice-aggregate-read-full c = search needs
+slice-aggregate-read-all : tie.Need-slice-aggregate-read-all
+slice-aggregate-read-all c = search needs
 
-read-full-requires : tie.Need-read-full-requires
-read-full-requires c κs = search needs
+read-all-requires : tie.Need-read-all-requires
+read-all-requires c κs = search needs
+
+slice-aggregate-write-all : tie.Need-slice-aggregate-write-all
+slice-aggregate-write-all c = search needs
+
+write-all-requires : tie.Need-write-all-requires
+write-all-requires c κs = search needs
+
+returns : tie.Need-returns
+returns c = search needs
 
 text-room-requires : tie.Need-text-room-requires
 text-room-requires c κs = search needs
@@ -34,28 +43,40 @@ enum-known-played c = search needs
 array-share-prefix-out : tie.Need-array-share-prefix-out
 array-share-prefix-out c = lent _ _ _ _ _ (c .before .played .given .1) (c .before .before .before .before .play .ensures) .0
 
-slice-aggregate-write-all : tie.Need-slice-aggregate-write-all
-slice-aggregate-write-all c = lent _ _ _ _ _ (c .before .before .played .given .1) (c .before .before .before .before .before .play .ensures) .1
+slice-aggregate-write-all-2 : tie.Need-slice-aggregate-write-all-2
+slice-aggregate-write-all-2 c = lent _ _ _ _ _ (c .before .before .played .given .1) (c .before .before .before .before .before .play .ensures) .1
 
-write-all-requires : tie.Need-write-all-requires
-write-all-requires c κs = search needs
+write-all-requires-2 : tie.Need-write-all-requires-2
+write-all-requires-2 c κs = search needs
+
+returns-2 : tie.Need-returns-2
+returns-2 c = search needs
+
+slice-aggregate-write-all-3 : tie.Need-slice-aggregate-write-all-3
+slice-aggregate-write-all-3 c = search needs
+
+write-all-requires-3 : tie.Need-write-all-requires-3
+write-all-requires-3 c κs = search needs
 
 enum-told : tie.Need-enum-told
 enum-told c = search needs
 
-returns : tie.Need-returns
-returns c = search needs
+returns-3 : tie.Need-returns-3
+returns-3 c = search needs
 
-returns-2 : tie.Need-returns-2
-returns-2 c = search needs
+returns-4 : tie.Need-returns-4
+returns-4 c = search needs
 
 pub main-spec : {M : Type 1} → statement M
 main-spec =
     tie.close
     (tie.spec
     trace-room-requires
-    slice-aggregate-read-full
-    read-full-requires
+    slice-aggregate-read-all
+    read-all-requires
+    slice-aggregate-write-all
+    write-all-requires
+    returns
     text-room-requires
     array-share-prefix-input
     slice-aggregate-play
@@ -63,8 +84,11 @@ main-spec =
     play-requires
     enum-known-played
     array-share-prefix-out
-    slice-aggregate-write-all
-    write-all-requires
+    slice-aggregate-write-all-2
+    write-all-requires-2
+    returns-2
+    slice-aggregate-write-all-3
+    write-all-requires-3
     enum-told
-    returns
-    returns-2)
+    returns-3
+    returns-4)
