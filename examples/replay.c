@@ -231,6 +231,17 @@ static void hold_area(unsigned long number, const char *name, const uint8_t *are
         differs("call %lu, %s: writes beside the area", number, name);
 }
 
+/* The numbers as recorded; of those that the call does not tell, the record has none. */
+static void hold_numbers(unsigned long number, enum which which, const uint64_t *out, const uint64_t *recorded)
+{
+    for (int i = 0; i < TOUCH_OUT; i++) {
+        uint64_t n = i < numbers_told(which) ? out[i] : 0;
+        if (n != recorded[i])
+            differs("call %lu, %s: number %d is %llu, recorded %llu", number, call_names[which], i,
+                    (unsigned long long)n, (unsigned long long)recorded[i]);
+    }
+}
+
 static void tracker_call(unsigned long number, enum which which, uint8_t *area)
 {
     struct call c = next_call(which);
@@ -244,10 +255,7 @@ static void tracker_call(unsigned long number, enum which which, uint8_t *area)
     refusal = make(&c, area, TOUCH_IMAGE_BYTES, &told);
     if (refusal != line.refusal)
         differs("call %lu, %s: refusal %u, recorded %u", number, name, refusal, line.refusal);
-    for (int i = 0; i < numbers_told(which); i++)
-        if (told.out[i] != r.out[i])
-            differs("call %lu, %s: number %d is %llu, recorded %llu", number, name, i,
-                    (unsigned long long)told.out[i], (unsigned long long)r.out[i]);
+    hold_numbers(number, which, told.out, r.out);
     if (!numbers_stand(&told, which))
         differs("call %lu, %s: writes beside its numbers", number, name);
     hold_area(number, name, area, r.image);
@@ -289,6 +297,7 @@ static void load(unsigned long number, uint8_t **area, unsigned alignment)
         *area = lend(bytes, count, alignment);
     else
         *area = lend(tracker, sizeof tracker, alignment);
+    hold_numbers(number, FRESH, NULL, r.out); /* the record of a load has none */
     hold_area(number, "a load", *area, r.image);
     count_refusal(line.refusal);
     loads++;
