@@ -1,8 +1,8 @@
 /*
  * Areas that are no tracker's image, and reports off the panel, as a C host can hand them over. Which areas are images is
  * read here a second time, from the table of docs/IMAGE.md and document 01's rule of states, and the archive's
- * verdict is held to that reading: for the areas of the recorded run with each byte set to each other value, for areas
- * joined of two of them, and for wrong lengths. A refused call alters nothing and tells zeros; an answered one leaves an
+ * verdict is held to that reading: for the areas of the recorded run with each byte set to each other value and each number
+ * to its bounds, for areas joined of two of them, and for wrong lengths. A refused call alters nothing and tells zeros; an answered one leaves an
  * image.
  *
  *     areas LINES     crates/probe/stdout (docs/PROBE.md)
@@ -227,6 +227,22 @@ static void altered(const uint8_t *sample)
     }
 }
 
+/* Each number set to its bounds, to one past them, and to the most that its bytes hold. */
+static void bounds(const uint8_t *sample)
+{
+    for (int i = 0; i < ROWS; i++) {
+        const struct row *row = &table[i];
+        uint64_t values[] = {row->least - 1, row->least, row->most, row->most + 1, 0, UINT64_MAX};
+        for (unsigned j = 0; j < sizeof values / sizeof values[0]; j++) {
+            uint8_t area[TOUCH_IMAGE_BYTES];
+            memcpy(area, sample, sizeof area);
+            for (unsigned k = 0; k < row->bytes; k++)
+                area[row->at + k] = (uint8_t)(values[j] >> 8 * k);
+            hold_area(area);
+        }
+    }
+}
+
 /* The first bytes of one and the others of another. */
 static void joined(const uint8_t *a, const uint8_t *b)
 {
@@ -287,6 +303,7 @@ int main(int words, char **word)
         wrong_lengths(samples[i]);
         off_panel(samples[i]);
         altered(samples[i]);
+        bounds(samples[i]);
         for (int j = 0; j < sample_count; j++)
             joined(samples[i], samples[j]);
     }
