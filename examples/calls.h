@@ -41,12 +41,15 @@ struct call {
 /* An area is lent from one room, at any of eight alignments. */
 enum { GUARD = 64, ALIGNMENTS = 8, AREA_MOST = 65535, GUARD_BYTE = 0xA5 };
 
-static uint8_t room[GUARD + ALIGNMENTS + AREA_MOST + GUARD];
+static union {
+    uint64_t aligns;
+    uint8_t bytes[GUARD + ALIGNMENTS + AREA_MOST + GUARD];
+} room;
 
 /* The room's area at this alignment, with the bytes in it and guards on both sides. */
 static inline uint8_t *lend(const uint8_t *bytes, size_t count, unsigned alignment)
 {
-    uint8_t *area = room + GUARD + alignment;
+    uint8_t *area = room.bytes + GUARD + alignment;
     memset(area - GUARD, GUARD_BYTE, GUARD);
     memcpy(area, bytes, count);
     memset(area + count, GUARD_BYTE, GUARD);

@@ -341,6 +341,7 @@ int main(int words, char **word)
     uint8_t *calls, *text;
     char *copy;
     unsigned long tracker_calls = 0;
+    unsigned alignment;
     if (words != 3) {
         fprintf(stderr, "replay CALLS LINES\n");
         return 2;
@@ -350,12 +351,14 @@ int main(int words, char **word)
     copy = malloc(lines_size + 1);
     if (!copy)
         return 2;
-    for (unsigned alignment = 0; alignment < ALIGNMENTS; alignment++) {
+    for (alignment = 0; alignment < ALIGNMENTS && !differences; alignment++) {
         at = calls;
         end = calls + calls_size;
         lines = memcpy(copy, text, lines_size + 1);
         replay(alignment);
     }
+    if (differences)
+        fprintf(stderr, "replay: with the area at %u behind a multiple of eight\n", (alignment - 1) % ALIGNMENTS);
     for (int which = FRESH; which < CALLS; which++) {
         if (!made[which])
             differs("no recorded call of %s", call_names[which]);
