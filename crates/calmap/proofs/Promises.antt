@@ -1,11 +1,12 @@
--- The public calls in document 01's numbers: what each tells for every input. That a contract of the form r ≡ definition
--- leaves no second answer is `one-answer` of panel's proofs/Promises.antt. Assumes nothing.
+-- The public calls in document 01's numbers: what each tells for every input, and that its contract leaves no second
+-- answer. Assumes nothing.
 use Prim.Native.Nat.{ℕ, _-_, _^_, _<_}
 use mathlib.Core.Path.{_≡_, refl, ap, _∙_}
 use mathlib.Core.List.{List}
 use lib.IntN.{ℤ, pos, _-ℤ_}
 use lib.ListN.{length, take}
 use Rattle.panel.proofs.Follow.{if-of}
+use Rattle.panel.proofs.Promises.{one-answer}
 use Rattle.panel.specs.Centroids.{mean}
 use Rattle.panel.specs.Points.{allOnPanel}
 use Rattle.panel.specs.Refusals.{Told}
@@ -14,17 +15,26 @@ use Rattle.panel.specs.Tests.{if_then_else_, _and_, _<?_}
 use Rattle.panel.specs.declared.points.Point.{Point}
 use Rattle.calmap.specs.Checks.{none, judged, scaleHolds, allStay, verdictOf, checkOf, checkFirst, toldCheck}
 use Rattle.calmap.specs.Distances.{squared, tenths, tenthsOf, dist10Of, toldDist10}
+use Rattle.calmap.specs.Held.{heldPoints, heldPairs, residHeld, checkHeld}
 use Rattle.calmap.specs.Maps.{line, lineFits, spot, applyOf, toldApply}
-use Rattle.calmap.specs.Resids.{Misses, known, wide, missesOf, largest, spread, spreadOf, residOf, residFirst, toldResid}
+use Rattle.calmap.specs.Resids.{Misses, pairsOf, known, wide, missesOf, largest, spread, spreadOf, residOf, residFirst, toldResid}
 use Rattle.calmap.specs.Roots.{IsRoot, rootOf}
 use Rattle.calmap.specs.Screening.{nudge, nudgeFits, moved, screenOf, toldScreen}
 use Rattle.calmap.specs.Sizes.{longest, twelve}
 use Rattle.calmap.specs.Wide.{in32, in16, down}
+use Rattle.calmap.specs.declared.gaps.Dist10Answer.{Dist10Answer}
+use Rattle.calmap.specs.declared.held.Pairs.{Pairs}
+use Rattle.calmap.specs.declared.held.Points.{Points}
+use Rattle.calmap.specs.declared.limits.CheckAnswer.{CheckAnswer}
 use Rattle.calmap.specs.declared.limits.Verdict.the-variants.{Pass, Scale, Shift}
+use Rattle.calmap.specs.declared.mapping.ApplyAnswer.{ApplyAnswer}
+use Rattle.calmap.specs.declared.residuals.ResidAnswer.{ResidAnswer}
 use Rattle.calmap.specs.declared.residuals.Spread.{Spread}
+use Rattle.calmap.specs.declared.screens.ScreenAnswer.{ScreenAnswer}
 use Rattle.calmap.specs.declared.units.Cal.{Cal}
 use Rattle.calmap.specs.declared.units.Pair.{Pair}
 use Rattle.calmap.specs.declared.units.Sixteenths.{Sixteenths}
+use Rattle.calmap.specs.declared.units.Tap.{Tap}
 use Rattle.calmap.proofs.Rooted.{root-is}
 
 abbrev tells : {A : Type 0} → ℕ → A → Told A
@@ -87,3 +97,45 @@ verdict-is c ps = refl
 pub check-of-tells : (c : Cal) (n : ℕ) (ps : List Point) → toldCheck (checkFirst c n ps) ≡ if_then_else_ (longest <? n) (tells 4 none) (toldCheck (checkOf c (take n ps)))
 unfolding checkFirst
 check-of-tells c n ps = if-of toldCheck _ _ _
+
+-- Each contract determines the answer, one line for each public function: panel's `one-answer`.
+
+pub isqrt-unique : (v : ℕ) {r s : ℕ} → r ≡ rootOf v → s ≡ rootOf v → r ≡ s
+isqrt-unique v = one-answer
+
+pub dist10-unique : (ax ay bx by : Sixteenths) {r s : Dist10Answer} → r ≡ dist10Of ax ay bx by → s ≡ dist10Of ax ay bx by → r ≡ s
+dist10-unique ax ay bx by = one-answer
+
+module _ (c : Cal) where
+  pub apply16-unique : (x y : ℤ) {r s : ApplyAnswer} → r ≡ applyOf c x y → s ≡ applyOf c x y → r ≡ s
+  apply16-unique x y = one-answer
+
+  pub screen-unique : (p : Point) {r s : ScreenAnswer} → r ≡ screenOf c p → s ≡ screenOf c p → r ≡ s
+  screen-unique p = one-answer
+
+  pub resid-of-unique : (n : ℕ) (ps : List Pair) {r s : ResidAnswer} → r ≡ residFirst c n ps → s ≡ residFirst c n ps → r ≡ s
+  resid-of-unique n ps = one-answer
+
+  pub resid-held-unique : (a : Pairs) {r s : ResidAnswer} → r ≡ residHeld c a → s ≡ residHeld c a → r ≡ s
+  resid-held-unique a = one-answer
+
+  pub check-of-unique : (n : ℕ) (ps : List Point) {r s : CheckAnswer} → r ≡ checkFirst c n ps → s ≡ checkFirst c n ps → r ≡ s
+  check-of-unique n ps = one-answer
+
+  pub check-held-unique : (a : Points) {r s : CheckAnswer} → r ≡ checkHeld c a → s ≡ checkHeld c a → r ≡ s
+  check-held-unique a = one-answer
+
+-- and of those that take lent lists, which they cannot alter
+module _ (raw tgt : List Tap) where
+  pub pairs-of-unique : {r s : Pairs} → r ≡ heldPairs raw tgt → s ≡ heldPairs raw tgt → r ≡ s
+  pairs-of-unique = one-answer
+
+  pub resid-unique : (c : Cal) {r s : ResidAnswer} → r ≡ residOf c (pairsOf raw tgt) → s ≡ residOf c (pairsOf raw tgt) → r ≡ s
+  resid-unique c = one-answer
+
+module _ (ps : List Point) where
+  pub points-of-unique : {r s : Points} → r ≡ heldPoints ps → s ≡ heldPoints ps → r ≡ s
+  points-of-unique = one-answer
+
+  pub check-unique : (c : Cal) {r s : CheckAnswer} → r ≡ checkOf c ps → s ≡ checkOf c ps → r ≡ s
+  check-unique c = one-answer
