@@ -1,5 +1,6 @@
--- The public calls in document 01's numbers: what each tells for every input. That a contract leaves no second answer is panel's `one-answer`:
--- each has the form r ≡ definition. Assumes nothing.
+-- The public calls in document 01's numbers: what each tells for every input, what was put is taken once, and that each
+-- contract leaves no second answer. Assumes nothing.
+use Prim.Native.Nat.{ℕ}
 use mathlib.Core.Path.{_≡_, refl, _∙_}
 use mathlib.Core.Bool.{Bool, true, false}
 use mathlib.Core.List.{List}
@@ -11,16 +12,27 @@ use Rattle.panel.specs.Points.{allOnPanel}
 use Rattle.panel.specs.declared.points.Point.{Point}
 use Rattle.panel.specs.declared.refusals.Refusal.the-variants.{Huge}
 use Rattle.panel.proofs.Follow.{if-of, if-false}
+use Rattle.panel.proofs.Promises.{one-answer}
+use Rattle.calmap.specs.Resids.{pairsOf}
 use Rattle.calmap.specs.Sizes.{longest}
+use Rattle.calmap.specs.declared.held.Pairs.{Pairs}
+use Rattle.calmap.specs.declared.held.Points.{Points}
 use Rattle.calmap.specs.declared.units.Cal.{Cal}
 use Rattle.calmap.specs.declared.units.Pair.{Pair}
-use Rattle.touchcal.specs.Floats.{inReach, nearestStep, q16Of, toldQ16, offIdentity, fromF32Of, identity, toldCal}
+use Rattle.calmap.specs.declared.units.Tap.{Tap}
+use Rattle.touchcal.specs.Floats.{inReach, nearestStep, q16Of, toldQ16, offIdentity, toF32Of, fromF32Of, identity, toldCal}
 use Rattle.touchcal.specs.Scpi.{clear, kept, putOf, takeOf, toldPut, toldTake}
 use Rattle.touchcal.specs.Solutions.{solvedOf}
 use Rattle.touchcal.specs.Fits.{fitOf, toldFit}
+use Rattle.touchcal.specs.Held.{fitFirst, fitHeld}
+use Rattle.touchcal.specs.declared.fitting.FitAnswer.{FitAnswer}
 use Rattle.touchcal.specs.declared.floats.Coefs.{Coefs}
+use Rattle.touchcal.specs.declared.floats.CalAnswer as cal-answer
 use Rattle.touchcal.specs.declared.floats.CalAnswer.the-variants as CalAnswer
+use Rattle.touchcal.specs.declared.floats.Q16Answer.{Q16Answer}
 use Rattle.touchcal.specs.declared.scpi.Pending.{Pending}
+use Rattle.touchcal.specs.declared.scpi.PutAnswer.{PutAnswer}
+use Rattle.touchcal.specs.declared.scpi.TakeAnswer.{TakeAnswer}
 use Rattle.touchcal.specs.declared.scpi.TakeAnswer.the-variants.{Taken, Nothing}
 use Rattle.touchcal.proofs.Reach.{allReach, nearestCal, steps-are}
 use Rattle.touchcal.proofs.Fitted.{tells, zeros, bySolution, solution-tells}
@@ -73,3 +85,35 @@ put-taken p v c e = rw e
 pub huge-clears : (p : Pending) (v : Coefs) → fromF32Of v ≡ CalAnswer.Refused Huge → takeOf (toldPut (putOf p v) .value) ≡ Nothing clear
 unfolding putOf takeOf if_then_else_
 huge-clears p v e = rw e
+
+-- ---- each contract determines the answer, one line for each public function: panel's `one-answer`
+
+pub q16-unique : (v : Float) {r s : Q16Answer} → r ≡ q16Of v → s ≡ q16Of v → r ≡ s
+q16-unique v = one-answer
+
+pub to-unique : (c : Cal) {r s : Coefs} → r ≡ toF32Of c → s ≡ toF32Of c → r ≡ s
+to-unique c = one-answer
+
+pub from-unique : (v : Coefs) {r s : cal-answer.CalAnswer} → r ≡ fromF32Of v → s ≡ fromF32Of v → r ≡ s
+from-unique v = one-answer
+
+pub cleared-unique : {r s : Pending} → r ≡ clear → s ≡ clear → r ≡ s
+cleared-unique = one-answer
+
+module _ (p : Pending) where
+  pub put-unique : (v : Coefs) {r s : PutAnswer} → r ≡ putOf p v → s ≡ putOf p v → r ≡ s
+  put-unique v = one-answer
+
+  pub take-unique : {r s : TakeAnswer} → r ≡ takeOf p → s ≡ takeOf p → r ≡ s
+  take-unique = one-answer
+
+module _ {r s : FitAnswer} where
+  pub fit-of-unique : (n : ℕ) (ps : List Pair) (m : ℕ) (ts : List Point) → r ≡ fitFirst n ps m ts → s ≡ fitFirst n ps m ts → r ≡ s
+  fit-of-unique n ps m ts = one-answer
+
+  pub fit-held-unique : (a : Pairs) (t : Points) → r ≡ fitHeld a t → s ≡ fitHeld a t → r ≡ s
+  fit-held-unique a t = one-answer
+
+  -- over lent lists, which it cannot alter
+  pub fit-unique : (raw tgt : List Tap) (ts : List Point) → r ≡ fitOf (pairsOf raw tgt) ts → s ≡ fitOf (pairsOf raw tgt) ts → r ≡ s
+  fit-unique raw tgt ts = one-answer
