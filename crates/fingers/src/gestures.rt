@@ -9,7 +9,7 @@ pub enum Gesture {
     LongPress(Point),
     // Finger moved while down: start, current point, locked axis.
     Drag(Point, Point, Axis),
-    // Hold-to-grab only: the finger was held still for the grab time, a drag may follow.
+    // Hold-to-grab only: the grab time is over and no report of it was early, a drag may follow.
     Grab(Point),
     // Release of a captured touch: the app owned it, so that it is no tap and no swipe.
     Up(Point),
@@ -24,9 +24,9 @@ pub enum Gesture {
     // A side key went down or up: its number, 0 to 7.
     KeyDown(u8),
     KeyUp(u8),
-    // Raw-move touch: from the previous report's point to this one.
+    // Raw-move touch: from the point of the last report that was read to this one's.
     Move(Point, Point),
-    // Axis of the finger pair, its separation along it at the start and now, pixels.
+    // Axis of the finger pair, its separation along it at the start and now, pixels; 0 is told as 1.
     Pinch(Axis, u16, u16),
     // Pinch over: released (true), or abandoned for a third finger (false).
     PinchEnd(bool),

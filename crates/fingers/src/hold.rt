@@ -26,7 +26,7 @@ pub(crate) fn hold_of(direct: bool, grab: u16) -> u16
     if direct { 0 } else { grab }
 }
 
-// Whether the finger has been held still for the grab time, and no Grab told of it yet.
+// Whether a Grab is due: the grab time is over, no report was early, and no Grab was told yet.
 pub(crate) fn grab_due(o: One, hold: u16, held: u64) -> bool
     ensures { λ r. ⌜ r ≡ grabDue o hold held ⌝ }
 {

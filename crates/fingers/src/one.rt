@@ -22,20 +22,21 @@ use panel::Point;
 pub struct One {
     pub last: Point,
     pub moved: bool,
-    // Farthest distance from the touch-down so far, pixels.
+    // Farthest distance from the touch-down of the reports that were read, pixels.
     pub far: u16,
-    // The app owns this touch: no swipe or tap on release.
+    // The app owns this touch: its release, if it has one finger to the end, is no swipe and no tap.
     pub captured: bool,
     // Raw-move touch: raw_next was on at the capture.
     pub raw: bool,
-    // Drag axis, decided once past SLOP.
+    // Drag axis, once it is found: looked for from the first report that may drag, wherever the finger then is.
     pub axis: AxisLock,
     pub long_sent: bool,
-    // Hold-to-grab: held still long enough, drags are allowed.
+    // Hold-to-grab: Grab was told, drags are allowed.
     pub grabbed: bool,
     // Captured with capture_direct: no hold-to-grab for this touch.
     pub direct: bool,
-    // Hold-to-grab: moved past GRAB_SLOP before the grab, so that it never drags.
+    // Hold-to-grab: a report was past GRAB_SLOP before the grab, so that no Grab comes. It drags all the same once the
+    // hold is off: captured direct, or the grab time set to 0.
     pub early: bool,
 }
 
@@ -225,7 +226,7 @@ fn drag(axis: AxisLock, o: One, p0: Point, p: Point) -> OneStep
     }
 }
 
-// Hold-to-grab: moving before the grab never drags.
+// Hold-to-grab: while the hold is on and no Grab was told, no drag.
 fn may_drag(o: One, hold: u16) -> bool
     ensures { λ r. ⌜ r ≡ mayDrag o hold ⌝ }
 {
@@ -238,7 +239,7 @@ fn may_drag(o: One, hold: u16) -> bool
 fn move_or_drag(o: One, hold: u16, prev: Point, p0: Point, p: Point) -> OneStep
     ensures { λ r. ⌜ r ≡ moving o hold prev p0 p ⌝ }
 {
-    // Raw-move touch: every report that moved, from the first.
+    // Raw-move touch: every report that moved, from the first; one that told a Grab does not come here.
     if o.raw {
         return OneStep {
             out: move_from(prev, p),

@@ -1,5 +1,5 @@
 // Two fingers as a pair, to tell a pinch. The controller's slot order is not stable: a finger keeps its name
-// by the nearest match between two reports.
+// by the smaller squared travel between two reports.
 ghost use mathlib.Core.Path.{_≡_};
 ghost use Prim.Native.Nat.{_-_};
 ghost use Rattle.fingers.specs.Pairs.{spanAlong, pairAxis, newPair, keepsOrder, stateNext, pairAt, pairNext, spanTold, pinchOf, notPinch};
@@ -67,7 +67,7 @@ pub fn new_pair(p: Point, q: Point, c: Point) -> Pair
     }
 }
 
-// Identity: the assignment with the smaller total travel.
+// Identity: the order in which the squares of the two ways have the smaller sum.
 fn keeps_order(r: Pair, p: Point, q: Point) -> bool
     ensures { λ s. ⌜ s ≡ keepsOrder r p q ⌝ }
 {

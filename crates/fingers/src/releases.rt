@@ -78,7 +78,8 @@ fn release_by(o: One, p0: Point, held: u64, dx: u16, dy: u16) -> Outcome
     if o.captured {
         return Outcome::Gives(Gesture::Up(p1));
     }
-    // A long press that the app did not take still taps, so that a slow press on a button is not lost.
+    // A long press that the app did not take still taps where it did not go far, so that a slow press on a button is
+    // not lost.
     if o.long_sent {
         return tap_or(o, p0, NOTE_LONG);
     }

@@ -1,5 +1,6 @@
 // Several fingers: the most seen in the touch, where and when they were first and last that many, and what
-// their end comes to. Fingers lift one by one, so that the last report with all of them is what counts.
+// their end comes to. Fingers lift one by one, so that a report with fewer does not count. Nor does one that tells a
+// Pinch or its end, unless there were never so many.
 ghost use mathlib.Core.Path.{_≡_};
 ghost use Rattle.fingers.specs.Several.{multiFrom, multiGrown, multiSeen, pinchOrSeen, twoFingers, pinchEndOrSeen, threeFingers, farDown, swipedDown, multiRule, isPinch, multiEnd};
 use crate::gestures::Gesture;
@@ -19,7 +20,8 @@ pub struct Multi {
     pub t0: u64,
     pub n: u8,
     pub c0: Point,
-    // Time and centroid of the last report with n fingers.
+    // Time and centroid of the last report with n fingers that counts: the first, or one that told neither Pinch nor
+    // PinchEnd.
     pub t1: u64,
     pub c1: Point,
 }
@@ -135,7 +137,7 @@ pub fn three_fingers(pr: Pairing, m: Multi, n: u8, c: Point, now: u64) -> MultiS
     }
 }
 
-// Four or five points, a palm, are no gesture.
+// Four or five points, a palm, are no swipe.
 fn far_down(n: u8, dy: u16) -> bool
     ensures { λ r. ⌜ r ≡ farDown n dy ⌝ }
 {
@@ -179,7 +181,7 @@ fn is_pinch(pr: Pairing) -> bool
     }
 }
 
-// All fingers are up that were several. A pinch never ends as a swipe.
+// All fingers are up that were several. A pinch that no third finger has ended is no swipe.
 pub fn multi_end(m: Multi, pr: Pairing) -> Outcome
     ensures { λ r. ⌜ r ≡ multiEnd m pr ⌝ }
 {
