@@ -11,6 +11,7 @@ use Rattle.gesture.specs.States.{stateRule}
 use Rattle.gesture.specs.Trackers.{origin, freshTracker, setOne, setGrab}
 use Rattle.gesture.specs.Captures.{taken, wished, afterCaptureDirect, afterSetGrab}
 use Rattle.gesture.specs.Answers.{refused, answered, reported, ticked, captured, eventOf, tickOf, captureOf, captureDirectOf, rawNextOf, setGrabOf, grabOf}
+use Rattle.gesture.specs.Calls.{Call, report, tick, capture, captureDirect, rawNext, setGrabMs, answerOf}
 use Rattle.gesture.specs.declared.record.Tracker.{Tracker}
 use Rattle.gesture.specs.declared.answers.Answer.{Answer}
 use Rattle.gesture.specs.declared.answers.GrabAnswer.{GrabAnswer}
@@ -57,3 +58,12 @@ set-grab-kept t ms h =
 pub grab-kept : (t : Tracker) → stateRule t ≡ true → Kept (grabOf t .answer)
 unfolding grabOf answered refused
 grab-kept t h = if-all (λ (a : GrabAnswer). Kept (a .answer)) _ h h
+
+-- any call of a run
+pub call-kept : (t : Tracker) (c : Call) → stateRule t ≡ true → Kept (answerOf t c)
+call-kept t (report now ev) = event-kept t ev now
+call-kept t (tick now) = tick-kept t now
+call-kept t capture = capture-kept t
+call-kept t captureDirect = capture-direct-kept t
+call-kept t (rawNext on) = raw-next-kept t on
+call-kept t (setGrabMs ms) = set-grab-kept t ms

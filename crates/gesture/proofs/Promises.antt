@@ -1,13 +1,13 @@
 -- The public calls in document 01's numbers: what each tells for every input, that a refused call carries nothing and
 -- alters nothing, and that its contract leaves no second answer. Assumes nothing.
-use mathlib.Core.Path.{_≡_, refl}
-use mathlib.Core.Bool.{Bool, false}
+use mathlib.Core.Path.{_≡_, refl, ap, _∙_}
+use mathlib.Core.Bool.{Bool, true, false}
 use Prim.Native.Nat.{ℕ}
 use Rattle.panel.specs.Tests.{if_then_else_}
 use Rattle.panel.specs.Points.{allOnPanel}
 use Rattle.panel.specs.declared.points.Event.{Event}
 use Rattle.panel.proofs.Promises.{one-answer}
-use Rattle.panel.proofs.Follow.{if-all}
+use Rattle.panel.proofs.Follow.{if-of, if-true, if-all}
 use Rattle.gesture.specs.Trackers.{freshTracker}
 use Rattle.gesture.specs.States.{stateRule}
 use Rattle.gesture.specs.Reports.{reportStep}
@@ -15,6 +15,7 @@ use Rattle.gesture.specs.Ticks.{tickStep}
 use Rattle.gesture.specs.Lines.{isLocked, reportLine, tickLine, captureLine}
 use Rattle.gesture.specs.Captures.{takes, taken, wished, afterCaptureDirect, afterSetGrab}
 use Rattle.gesture.specs.Answers.{refused, answered, givenBy, pointsInUse, reported, ticked, captured, eventOf, tickOf, captureOf, captureDirectOf, rawNextOf, setGrabOf, grabOf}
+use Rattle.gesture.specs.Calls.{Call, report, tick, capture, captureDirect, rawNext, setGrabMs, answerOf}
 use Rattle.gesture.specs.declared.record.Tracker.{Tracker}
 use Rattle.gesture.specs.declared.lines.Log.{Log}
 use Rattle.gesture.specs.declared.lines.Log.the-variants.{Silent}
@@ -95,6 +96,28 @@ module _ (t : Tracker) where
   pub grab-refused : UnalteredGrab (grabOf t)
   unfolding grabOf answered refused
   grab-refused = if-all UnalteredGrab _ (λ n. absurd (n refl)) (λ n. (refl, refl, refl, refl))
+
+-- The number of any call of a run: on a tracker that keeps the state rule only a report is ever refused, with 2, for a point
+-- in use off the panel.
+
+abbrev pub numberIn : Call → ℕ
+numberIn (report now ev) = if_then_else_ (allOnPanel (pointsInUse ev)) 0 2
+numberIn (tick now) = 0
+numberIn capture = 0
+numberIn captureDirect = 0
+numberIn (rawNext on) = 0
+numberIn (setGrabMs ms) = 0
+
+abbrev number : Answer → ℕ
+number a = a .refusal
+
+pub call-tells : (t : Tracker) (c : Call) → stateRule t ≡ true → answerOf t c .refusal ≡ numberIn c
+call-tells t (report now ev) h = ap number (event-tells t ev now ∙ if-true _ _ _ h) ∙ if-of number _ _ _
+call-tells t (tick now) h = ap number (tick-tells t now ∙ if-true _ _ _ h)
+call-tells t capture h = ap number (capture-tells t ∙ if-true _ _ _ h) ∙ if-all (λ (a : Answer). a .refusal ≡ 0) _ refl refl
+call-tells t captureDirect h = ap number (capture-direct-tells t ∙ if-true _ _ _ h)
+call-tells t (rawNext on) h = ap number (raw-next-tells t on ∙ if-true _ _ _ h)
+call-tells t (setGrabMs ms) h = ap number (set-grab-tells t ms ∙ if-true _ _ _ h)
 
 -- Each contract determines the whole answer: gesture, log line, tracker and number.
 

@@ -1,16 +1,26 @@
--- What the host's calls promise: a refused call leaves every byte and tells zeros, STATE is given for exactly the areas
--- that are no image, the next call finds the tracker that this one left, and each contract leaves one answer. Assumes
--- nothing.
+-- What the host's calls promise: a refused call leaves every byte and tells zeros; a call of the tracker tells STATE for
+-- exactly the areas that are no image; the next call finds the tracker that this one left, where that tracker has what its
+-- type gives every tracker of the code (`Typed` of image); and each contract leaves one answer. Assumes nothing.
 use Prim.Native.Nat.{ℕ}
-use mathlib.Core.Path.{_≡_, refl, _∙_, ap}
-use mathlib.Core.Bool.{true}
-use mathlib.Core.List.{List}
-use lib.IntN.{ℤ}
+use native.Mathlib.Omega.{arith}
+use mathlib.Core.Path.{_≡_, refl, sym, _∙_, ap}
+use mathlib.Core.Bool.{true, not}
+use mathlib.Core.List.{List, [], _∷_}
+use lib.IntN.{ℤ, pos}
 use lib.ListN.{length, replicate}
-use borrow.Author.Tests.{eq-eqb}
-use Rattle.panel.proofs.Follow.{if-true, if-all}
+use borrow.Author.Tests.{eq-eqb, eqb-true}
+use Rattle.panel.proofs.Follow.{if-true, if-know, if-all}
 use Rattle.panel.proofs.Promises.{one-answer}
+use Rattle.panel.specs.Tests.{_=?_}
+use Rattle.panel.specs.declared.points.Event.{Event}
+use Rattle.calmap.specs.Maps.{applyOf}
 use Rattle.calmap.specs.declared.mapping.ApplyAnswer.{ApplyAnswer}
+use Rattle.calmap.specs.declared.mapping.ApplyAnswer.the-variants as apply
+use Rattle.calmap.specs.declared.units.Cal.{Cal}
+use Rattle.gesture.proofs.Keeps.{call-kept}
+use Rattle.gesture.proofs.Promises.{numberIn, call-tells, grab-refused}
+use Rattle.gesture.specs.Answers.{eventOf, tickOf, captureOf, captureDirectOf, rawNextOf, setGrabOf, grabOf}
+use Rattle.gesture.specs.Calls.{Call, report, tick, capture, captureDirect, rawNext, setGrabMs, answerOf}
 use Rattle.gesture.specs.States.{stateRule}
 use Rattle.gesture.specs.Trackers.{freshTracker}
 use Rattle.gesture.specs.declared.answers.Answer.{Answer}
@@ -20,7 +30,7 @@ use Rattle.image.specs.Codec.{decodeOf, stored, storeOf}
 use Rattle.image.specs.Typed.{Bytes, Typed}
 use Rattle.image.specs.declared.codec.DecodeAnswer.{DecodeAnswer}
 use Rattle.image.specs.declared.codec.DecodeAnswer.the-variants.{Answered, Refused}
-use Rattle.image.proofs.Promises.{NoImage, decode-of-image, no-image-refused, fresh-image}
+use Rattle.image.proofs.Promises.{NoImage, decode-of-image, no-image-refused, fresh-image, store-unique}
 use Rattle.host.specs.Numbers.{numbersOf, zeros}
 use Rattle.host.specs.Hosts.{Hosted, host, finished, onDecoded, hosted, grabFinished, grabDecoded, grabHosted, Applied, applied, appliedBy}
 
@@ -53,7 +63,23 @@ module _ (area : List ℕ) where
   unfolding grabHosted
   grab-unaltered = grab-decoded (decodeOf area)
 
--- STATE, number 1, for an area that is no image; the tracker's own call on one that is.
+  -- and a refused one tells a zero
+  grab-zero : (d : DecodeAnswer) → (grabDecoded area d .number ≡ 0 → ⊥) → grabDecoded area d .out ≡ 0 ∷ []
+  unfolding grabDecoded grabFinished
+  grab-zero (Answered t) refused = ap (λ (ms : ℕ). ms ∷ []) (grab-refused t refused .0)
+  grab-zero (Refused why) refused = refl
+
+  pub grab-refused-zero : (grabHosted area .number ≡ 0 → ⊥) → grabHosted area .out ≡ 0 ∷ []
+  unfolding grabHosted
+  grab-refused-zero = grab-zero (decodeOf area)
+
+-- a place out of reach tells two zeros
+pub apply-refused-zeros : (is : ApplyAnswer) → (appliedBy is .number ≡ 0 → ⊥) → appliedBy is .out ≡ pos 0 ∷ pos 0 ∷ []
+unfolding appliedBy
+apply-refused-zeros (apply.Answered s) refused = absurd (refused refl)
+apply-refused-zeros (apply.Refused why) refused = refl
+
+-- STATE, number 1, for exactly the areas that are no image; the tracker's own call on one that is.
 
 pub no-image-state : (area : List ℕ) (call : Tracker → Answer) → Bytes area → NoImage area → hosted area call ≡ host 1 area zeros
 unfolding hosted onDecoded
@@ -70,11 +96,33 @@ module _ (t : Tracker) (typed : Typed t) (kept : stateRule t ≡ true) where
     unfolding finished
     leaves-image = on-image call ∙ if-true _ _ _ (eq-eqb _ _ answers)
 
--- and the next call finds that tracker
+-- and an area on which a call tells STATE is no image: on an image a call of the tracker is answered, or refused for a point
+finished-number : (area : List ℕ) (a : Answer) → finished area a .number ≡ a .refusal
+unfolding finished
+finished-number area a = if-know (λ (h : Hosted). h .number ≡ a .refusal) _ _ _ (λ yes. sym (eqb-true _ _ yes)) (λ other. refl)
 
-pub next-finds : (t : Tracker) (call next : Tracker → Answer) → Typed t → stateRule t ≡ true → call t .refusal ≡ 0 → Typed (call t .tracker) → stateRule (call t .tracker) ≡ true → hosted (hosted (imageOf t) call .area) next ≡ finished (imageOf (call t .tracker)) (next (call t .tracker))
-next-finds t call next typed kept answers typed-next kept-next =
-    ap (λ (h : Hosted). hosted (h .area) next) (leaves-image t typed kept call answers) ∙ on-image (call t .tracker) typed-next kept-next next
+not-state : (c : Call) → numberIn c ≡ 1 → ⊥
+not-state (report now ev) e = if-all (λ (n : ℕ). n ≡ 1 → ⊥) _ (λ h. omega arith) (λ h. omega arith) e
+not-state (tick now) e = omega arith
+not-state capture e = omega arith
+not-state captureDirect e = omega arith
+not-state (rawNext on) e = omega arith
+not-state (setGrabMs ms) e = omega arith
+
+pub state-no-image : (area : List ℕ) (c : Call) → hosted area (λ t. answerOf t c) .number ≡ 1 → NoImage area
+state-no-image area c state t typed kept is =
+    not-state c
+    (sym (call-tells t c kept)
+    ∙ sym (finished-number (imageOf t) (answerOf t c))
+    ∙ sym (ap (λ (h : Hosted). h .number) (on-image t typed kept (λ u. answerOf u c)))
+    ∙ ap (λ (xs : List ℕ). hosted xs (λ u. answerOf u c) .number) is
+    ∙ state)
+
+-- The next call finds the tracker that an answered one left: the state rule is kept.
+
+pub next-finds : (t : Tracker) (c next : Call) → Typed t → stateRule t ≡ true → answerOf t c .refusal ≡ 0 → Typed (answerOf t c .tracker) → hosted (hosted (imageOf t) (λ u. answerOf u c) .area) (λ u. answerOf u next) ≡ finished (imageOf (answerOf t c .tracker)) (answerOf (answerOf t c .tracker) next)
+next-finds t c next typed kept answers typed-next =
+    ap (λ (h : Hosted). hosted (h .area) (λ u. answerOf u next)) (leaves-image t typed kept (λ u. answerOf u c) answers) ∙ on-image (answerOf t c .tracker) typed-next (call-kept t c kept) (λ u. answerOf u next)
 
 -- A fresh area: all zero, of any area of the image's length.
 
@@ -82,15 +130,47 @@ pub fresh-area : (area : List ℕ) → length area ≡ imageBytes → storeOf fr
 unfolding storeOf
 fresh-area area long = if-true _ _ _ (eq-eqb _ _ long) ∙ ap (stored 0) fresh-image
 
--- Each contract determines what comes back: the number, the area and the numbers of the answer.
+-- Each contract determines what comes back: the number, the area and the numbers of the answer. One line for each of the
+-- nine functions.
 
-module _ (r s : ℕ) (a b out told : List ℕ) (is : Hosted) where
-  pub host-unique : host r a out ≡ is → host s b told ≡ is → (r ≡ s) × (a ≡ b) × (out ≡ told)
-  host-unique p q =
+module _ (r s : ℕ) (a b out told : List ℕ) where
+  pub host-unique : (is : Hosted) → host r a out ≡ is → host s b told ≡ is → (r ≡ s) × (a ≡ b) × (out ≡ told)
+  host-unique is p q =
       let e = one-answer p q in
       (ap (λ (h : Hosted). h .number) e, ap (λ (h : Hosted). h .area) e, ap (λ (h : Hosted). h .out) e)
 
-pub apply-unique : (r s : ℕ) (a b : List ℤ) (is : ApplyAnswer) → applied r a ≡ appliedBy is → applied s b ≡ appliedBy is → (r ≡ s) × (a ≡ b)
-apply-unique r s a b is p q =
+  module _ (area : List ℕ) where
+    abbrev OneAnswer : Hosted → Type 0
+    OneAnswer is = host r a out ≡ is → host s b told ≡ is → (r ≡ s) × (a ≡ b) × (out ≡ told)
+
+    pub event-unique : (ev : Event) (time : ℕ) → OneAnswer (hosted area (λ t. eventOf t ev time))
+    event-unique ev time = host-unique _
+
+    pub tick-unique : (time : ℕ) → OneAnswer (hosted area (λ t. tickOf t time))
+    tick-unique time = host-unique _
+
+    pub capture-unique : OneAnswer (hosted area (λ t. captureOf t))
+    capture-unique = host-unique _
+
+    pub capture-direct-unique : OneAnswer (hosted area (λ t. captureDirectOf t))
+    capture-direct-unique = host-unique _
+
+    pub raw-next-unique : (on : ℕ) → OneAnswer (hosted area (λ t. rawNextOf t (not (on =? 0))))
+    raw-next-unique on = host-unique _
+
+    pub set-grab-unique : (ms : ℕ) → OneAnswer (hosted area (λ t. setGrabOf t ms))
+    set-grab-unique ms = host-unique _
+
+-- the area of `touch_grab_ms` is lent to be read only
+pub grab-unique : (r s : ℕ) (area out told : List ℕ) → host r area out ≡ grabHosted area → host s area told ≡ grabHosted area → (r ≡ s) × (out ≡ told)
+grab-unique r s area out told p q =
+    let e = host-unique r s area area out told (grabHosted area) p q in
+    (e .0, e .2)
+
+pub fresh-unique : (area : List ℕ) (r s : ℕ) (a b : List ℕ) → stored r a ≡ storeOf freshTracker area → stored s b ≡ storeOf freshTracker area → (r ≡ s) × (a ≡ b)
+fresh-unique area = store-unique freshTracker area
+
+pub apply-unique : (c : Cal) (x y : ℤ) (r s : ℕ) (a b : List ℤ) → applied r a ≡ appliedBy (applyOf c x y) → applied s b ≡ appliedBy (applyOf c x y) → (r ≡ s) × (a ≡ b)
+apply-unique c x y r s a b p q =
     let e = one-answer p q in
-    (ap (λ (x : Applied). x .number) e, ap (λ (x : Applied). x .out) e)
+    (ap (λ (z : Applied). z .number) e, ap (λ (z : Applied). z .out) e)
