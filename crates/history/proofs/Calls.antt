@@ -9,7 +9,7 @@ use Rattle.fingers.specs.declared.gestures.Gesture.{Gesture}
 use Rattle.fingers.specs.declared.gestures.Gesture.the-variants.{Down, Tap, LongPress, Drag, Grab, Up, SwipeLeft, SwipeRight, SwipeUp, SwipeDown, Cancel, MultiSwipeDown, KeyDown, KeyUp, Move, Pinch, PinchEnd}
 use Rattle.fingers.specs.declared.gestures.Outcome.the-variants.{Gives}
 use Rattle.fingers.specs.declared.keys.KeyStep.{KeyStep}
-use Rattle.gesture.proofs.Keeps.{event-kept, tick-kept, capture-kept, capture-direct-kept, raw-next-kept, set-grab-kept}
+use Rattle.gesture.proofs.Keeps.{call-kept}
 use Rattle.gesture.specs.Lines.{isLocked}
 use Rattle.gesture.specs.Answers.{pointsInUse, answered, givenBy, reported, eventOf, ticked, tickOf, captured, captureOf, captureDirectOf, rawNextOf, setGrabOf}
 use Rattle.gesture.specs.Calls.{Call, report, tick, capture, captureDirect, rawNext, setGrabMs, answerOf}
@@ -310,14 +310,6 @@ module _ (t : Tracker) (s : Seen) (i : Together t s) where
   call-answered (rawNext wish) a = raw-quiet t s i wish .0
   call-answered (setGrabMs ms) a = grab-quiet t s i ms .0
 
-  call-kept : (c : Call) → stateRule (answerOf t c .tracker) ≡ true
-  call-kept (report now ev) = event-kept t ev now (i .valid)
-  call-kept (tick now) = tick-kept t now (i .valid)
-  call-kept capture = capture-kept t (i .valid)
-  call-kept captureDirect = capture-direct-kept t (i .valid)
-  call-kept (rawNext wish) = raw-next-kept t wish (i .valid)
-  call-kept (setGrabMs ms) = set-grab-kept t ms (i .valid)
-
   abbrev CallGives : Call → Answer → Type 0
   CallGives c a = (s′ : Seen) × Gives′ t s c (a .gesture) (a .tracker) s′
 
@@ -371,7 +363,7 @@ module _ (t : Tracker) (s : Seen) (i : Together t s) where
       record {
         together =
             subst (Together (answerOf t c .tracker)) back
-            (record { valid = call-kept c; keys = r .keys; byte = r .byte; want = r .want; touch = r .touch; end = r .end });
+            (record { valid = call-kept t c (i .valid); keys = r .keys; byte = r .byte; want = r .want; touch = r .touch; end = r .end });
         several = subst (λ (x : Seen). SeveralSilent (s .touch) (x .touch) (answerOf t c .gesture)) back (r .several);
         down = r .down;
         excepted = subst (λ (x : Seen). ExceptedSilent (s .touch) (x .touch) (answerOf t c .gesture)) back (r .excepted);

@@ -8,17 +8,15 @@ use mathlib.Core.Path.{_≡_, refl, sym, ap, _∙_}
 use native.Mathlib.Omega.{arith}
 use lib.ListN.{length, take, drop, length-append}
 use lib.Seq.{length-take-le}
-use Rattle.gesture.proofs.Keeps.{fresh-kept, event-kept, tick-kept, capture-kept, capture-direct-kept, raw-next-kept, set-grab-kept}
-use Rattle.gesture.proofs.Promises.{event-tells, tick-tells, capture-tells, capture-direct-tells, raw-next-tells, set-grab-tells}
-use Rattle.gesture.specs.Answers.{pointsInUse}
-use Rattle.gesture.specs.Calls.{Call, report, tick, capture, captureDirect, rawNext, setGrabMs, answerOf}
+use Rattle.gesture.proofs.Keeps.{fresh-kept, call-kept}
+use Rattle.gesture.proofs.Promises.{numberIn, call-tells}
+use Rattle.gesture.specs.Calls.{Call, answerOf}
 use Rattle.gesture.specs.States.{stateRule}
 use Rattle.gesture.specs.Trackers.{freshTracker}
 use Rattle.gesture.specs.declared.answers.Answer.{Answer}
 use Rattle.gesture.specs.declared.record.Tracker.{Tracker}
-use Rattle.panel.proofs.Follow.{if-of, if-true, if-two, if-all}
+use Rattle.panel.proofs.Follow.{if-of, if-true, if-two}
 use Rattle.panel.proofs.Promises.{one-answer}
-use Rattle.panel.specs.Points.{allOnPanel}
 use Rattle.panel.specs.Refusals.{Told}
 use Rattle.panel.specs.Tests.{if_then_else_, _≤?_}
 use Rattle.panel.specs.declared.refusals.Refusal.the-variants.{Room}
@@ -68,40 +66,15 @@ one-last-line bytes = refl
 
 -- "A refused report prints `i refused 2`": a report with a point in use off the panel is refused with 2, and nothing else
 -- of a trace ever is, as no run from a fresh tracker breaks the state rule.
-abbrev pub numberIn : Call → ℕ
-numberIn (report now ev) = if_then_else_ (allOnPanel (pointsInUse ev)) 0 2
-numberIn (tick now) = 0
-numberIn capture = 0
-numberIn captureDirect = 0
-numberIn (rawNext on) = 0
-numberIn (setGrabMs ms) = 0
-
 abbrev refusals : List Answer → List ℕ
 refusals told = map (λ a. a .refusal) told
-
-number-told : (t : Tracker) (c : Call) → stateRule t ≡ true → answerOf t c .refusal ≡ numberIn c
-number-told t (report now ev) h =
-    ap (λ (a : Answer). a .refusal) (event-tells t ev now ∙ if-true _ _ _ h) ∙ if-of (λ (a : Answer). a .refusal) _ _ _
-number-told t (tick now) h = ap (λ (a : Answer). a .refusal) (tick-tells t now ∙ if-true _ _ _ h)
-number-told t capture h = ap (λ (a : Answer). a .refusal) (capture-tells t ∙ if-true _ _ _ h) ∙ if-all (λ (a : Answer). a .refusal ≡ 0) _ refl refl
-number-told t captureDirect h = ap (λ (a : Answer). a .refusal) (capture-direct-tells t ∙ if-true _ _ _ h)
-number-told t (rawNext on) h = ap (λ (a : Answer). a .refusal) (raw-next-tells t on ∙ if-true _ _ _ h)
-number-told t (setGrabMs ms) h = ap (λ (a : Answer). a .refusal) (set-grab-tells t ms ∙ if-true _ _ _ h)
-
-rule-kept : (t : Tracker) (c : Call) → stateRule t ≡ true → stateRule (answerOf t c .tracker) ≡ true
-rule-kept t (report now ev) h = event-kept t ev now h
-rule-kept t (tick now) h = tick-kept t now h
-rule-kept t capture h = capture-kept t h
-rule-kept t captureDirect h = capture-direct-kept t h
-rule-kept t (rawNext on) h = raw-next-kept t on h
-rule-kept t (setGrabMs ms) h = set-grab-kept t ms h
 
 refusals-from : (t : Tracker) (cs : List Call) → stateRule t ≡ true → refusals (answersTo t cs) ≡ map numberIn cs
 unfolding answersTo
 refusals-from t [] h = refl
 refusals-from t (c ∷ cs) h =
-    ap (λ (n : ℕ). n ∷ refusals (answersTo (answerOf t c .tracker) cs)) (number-told t c h)
-    ∙ ap (λ (ns : List ℕ). numberIn c ∷ ns) (refusals-from (answerOf t c .tracker) cs (rule-kept t c h))
+    ap (λ (n : ℕ). n ∷ refusals (answersTo (answerOf t c .tracker) cs)) (call-tells t c h)
+    ∙ ap (λ (ns : List ℕ). numberIn c ∷ ns) (refusals-from (answerOf t c .tracker) cs (call-kept t c h))
 
 pub only-panel : (cs : List Call) → map (λ a. a .refusal) (answersTo freshTracker cs) ≡ map numberIn cs
 only-panel cs = refusals-from freshTracker cs fresh-kept
