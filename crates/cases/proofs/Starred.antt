@@ -26,4 +26,4 @@ use Rattle.cases.specs.Starred.{after, Holds, AllHold, table}
 
 pub starred : AllHold table
 unfolding after Holds AllHold eventOf tickOf answered givenBy pointsInUse reported ticked upOutcome endStored allUp isLastFinger residualTouch newTouch touchDown goesOn oneFinger twoStart two several twoOf fingersOf keysThenFingers reportStep heldPoints centroids spanRule pairRule mostRule rawRule stateRule stillDown keysThenHold tickStep freshTracker setTouch setKeys reset setAxis holdOf grabDue longFrom longDue heldStill without lowest flipped keyStep trailingZeros earlyNow tracked axisAt dragAlong mayDrag moving grabOrMoving laterReport spanAlong pairAxis newPair tapOrNote isSwipe swipeOrNote releaseBy releaseOf multiFrom farDown swipedDown multiRule isPinch multiEnd axisOf total mean middle difference distance onPanel allOnPanel fingers if_then_else_ _and_ _or_ gestureLine isDrag isLocked reportGestureLine noteLine reportLine tickLine applyOf lineFits line in16 in32 down checkOf verdictOf scaleHolds mild allStay stays near
-starred = (refl, (refl, ((refl, refl), (refl, ((refl, refl), (refl, (refl, (refl, (refl, (refl, ((refl, refl), (refl, (refl, (refl, (refl, (refl, (refl, tt)))))))))))))))))
+starred = (refl, (refl, ((refl, refl), (refl, ((refl, refl), ((refl, refl), (refl, ((refl, refl), (refl, (refl, ((refl, refl), (refl, ((refl, refl), (refl, (refl, (refl, (refl, (refl, (refl, tt)))))))))))))))))))

@@ -14,7 +14,7 @@ use Rattle.calmap.specs.declared.mapping.ApplyAnswer.the-variants as Apply
 use Rattle.calmap.specs.declared.units.Cal.{Cal}
 use Rattle.calmap.specs.declared.units.Q16.{Q16}
 use Rattle.fingers.specs.declared.gestures.Gesture.{Gesture}
-use Rattle.fingers.specs.declared.gestures.Gesture.the-variants.{Down, Tap, Drag, KeyDown, KeyUp}
+use Rattle.fingers.specs.declared.gestures.Gesture.the-variants.{Down, Tap, Drag, SwipeRight, KeyDown, KeyUp}
 use Rattle.gesture.specs.Calls.{Call, report, tick, answerOf}
 use Rattle.gesture.specs.Letters.{ascii-N}
 use Rattle.gesture.specs.Lines.{line}
@@ -27,7 +27,7 @@ use Rattle.panel.specs.declared.points.Point.{Point}
 pub data Case : Type 0 where
   -- after these calls, this one gives the gesture
   gives : List Call → Call → Gesture → Case
-  -- after these calls, this one gives nothing
+  -- after these calls, this one is answered and gives nothing
   silent : List Call → Call → Case
   -- after these calls, this one, at this point and time, gives nothing but the note
   notes : List Call → Call → ℕ → Point → ℕ → Case
@@ -43,7 +43,8 @@ after t (c ∷ cs) = after (answerOf t c .tracker) cs
 
 unfoldable pub Holds : Case → Type 0
 Holds (gives before c g) = answerOf (after freshTracker before) c .gesture ≡ Gave g
-Holds (silent before c) = answerOf (after freshTracker before) c .gesture ≡ Nothing
+Holds (silent before c) =
+    (answerOf (after freshTracker before) c .refusal ≡ 0) × (answerOf (after freshTracker before) c .gesture ≡ Nothing)
 Holds (notes before c n p now) =
     (answerOf (after freshTracker before) c .gesture ≡ Nothing) × (answerOf (after freshTracker before) c .log ≡ line ascii-N n p now)
 Holds (applies c x y ax ay) = applyOf c (pos x) (pos y) ≡ Apply.Answered (spot ax ay)
@@ -69,9 +70,12 @@ one p now = report now (record { points = 1; p = p; pts = at 0 0 ∷ at 0 0 ∷ 
 abbrev two : Point → Point → ℕ → Call
 two p q now = report now (record { points = 2; p = p; pts = p ∷ q ∷ at 0 0 ∷ at 0 0 ∷ at 0 0 ∷ []; keys = 0 })
 
--- a touch down at (100, 50), and one that has been at p and is back
+-- a touch down at (100, 50); one that went to p, and one that has been there and is back
 abbrev down : List Call
 down = one (at 100 50) 0 ∷ []
+
+abbrev gone : Point → List Call
+gone p = one (at 100 50) 0 ∷ one p 10 ∷ []
 
 abbrev back : Point → List Call
 back p = one (at 100 50) 0 ∷ one p 10 ∷ one (at 100 50) 20 ∷ []
@@ -101,9 +105,12 @@ table =
     ∷ gives down (one (at 116 50) 10) (Drag (at 100 50) (at 116 50) H)
     ∷ silent down (one (at 116 66) 10)
     ∷ gives down (one (at 131 81) 10) (Drag (at 100 50) (at 131 81) H)
-    -- "Far 30 is a Tap, 31 note 131."
+    -- "Far 30 is a Tap, 31 note 131. Swipe at 800 ms, none at 801." Too late for a swipe, 60 px are too far for a tap: note
+    -- 160.
     ∷ gives (back (at 130 50)) (none 30) (Tap (at 100 50))
     ∷ notes (back (at 131 50)) (none 30) 131 (at 100 50) 30
+    ∷ gives (gone (at 160 50)) (none 800) SwipeRight
+    ∷ notes (gone (at 160 50)) (none 801) 160 (at 160 50) 801
     -- "apply16 zero at (3,5): (48,80); c2 = -1 at (0,0): (-1,0)."
     ∷ applies (onlyC2 (pos 0)) 3 5 (pos 48) (pos 80)
     ∷ applies (onlyC2 (negsuc 0)) 0 0 (negsuc 0) (pos 0)
