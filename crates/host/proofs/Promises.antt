@@ -18,12 +18,13 @@ use Rattle.calmap.specs.declared.mapping.ApplyAnswer.{ApplyAnswer}
 use Rattle.calmap.specs.declared.mapping.ApplyAnswer.the-variants as apply
 use Rattle.calmap.specs.declared.units.Cal.{Cal}
 use Rattle.gesture.proofs.Keeps.{call-kept}
-use Rattle.gesture.proofs.Promises.{numberIn, call-tells, grab-refused}
-use Rattle.gesture.specs.Answers.{eventOf, tickOf, captureOf, captureDirectOf, rawNextOf, setGrabOf, grabOf}
+use Rattle.gesture.proofs.Promises.{numberIn, call-tells, grab-tells, grab-refused}
+use Rattle.gesture.specs.Answers.{eventOf, tickOf, captureOf, captureDirectOf, rawNextOf, setGrabOf}
 use Rattle.gesture.specs.Calls.{Call, report, tick, capture, captureDirect, rawNext, setGrabMs, answerOf}
 use Rattle.gesture.specs.States.{stateRule}
 use Rattle.gesture.specs.Trackers.{freshTracker}
 use Rattle.gesture.specs.declared.answers.Answer.{Answer}
+use Rattle.gesture.specs.declared.answers.GrabAnswer.{GrabAnswer}
 use Rattle.gesture.specs.declared.record.Tracker.{Tracker}
 use Rattle.image.specs.Image.{imageOf, imageBytes}
 use Rattle.image.specs.Codec.{decodeOf, stored, storeOf}
@@ -117,6 +118,22 @@ state-no-image area c state t typed kept is =
     ∙ sym (ap (λ (h : Hosted). h .number) (on-image t typed kept (λ u. answerOf u c)))
     ∙ ap (λ (xs : List ℕ). hosted xs (λ u. answerOf u c) .number) is
     ∙ state)
+
+-- the same of the grab time
+pub grab-no-image-state : (area : List ℕ) → Bytes area → NoImage area → grabHosted area ≡ host 1 area (0 ∷ [])
+unfolding grabHosted grabDecoded
+grab-no-image-state area bytes none = ap (λ (d : DecodeAnswer). grabDecoded area d) (no-image-refused area bytes none)
+
+grab-on-image : (t : Tracker) → Typed t → stateRule t ≡ true → grabHosted (imageOf t) .number ≡ 0
+unfolding grabHosted grabDecoded grabFinished
+grab-on-image t typed kept =
+    ap (λ (d : DecodeAnswer). grabDecoded (imageOf t) d .number) (decode-of-image t typed kept)
+    ∙ ap (λ (g : GrabAnswer). g .answer .refusal) (grab-tells t ∙ if-true _ _ _ kept)
+
+pub grab-state-no-image : (area : List ℕ) → grabHosted area .number ≡ 1 → NoImage area
+grab-state-no-image area state t typed kept is =
+    let e : _≡_ {A = ℕ} 0 1 = sym (grab-on-image t typed kept) ∙ ap (λ (xs : List ℕ). grabHosted xs .number) is ∙ state in
+    omega arith
 
 -- The next call finds the tracker that an answered one left: the state rule is kept.
 
