@@ -30,7 +30,7 @@ pub extern "C" fn touch_tick(image: &mut [u8], time: u64, out: &mut [u64; ANSWER
     making::made(image, Call::Tick(time), out)
 }
 
-// The app took the current touch: on release it is no swipe and no tap.
+// The app took the current touch: the release of its one finger is then no swipe and no tap.
 #[no_mangle]
 pub extern "C" fn touch_capture(image: &mut [u8], out: &mut [u64; ANSWER_NUMBERS]) -> u32
     ensures { λ r. ⌜ host r (now (image .exit)) (now (out .exit)) ≡ hosted (now (image .entry)) (λ t. captureOf t) ⌝ }
@@ -38,7 +38,7 @@ pub extern "C" fn touch_capture(image: &mut [u8], out: &mut [u64; ANSWER_NUMBERS
     making::made(image, Call::Capture, out)
 }
 
-// As touch_capture, and the touch drags at once even with hold-to-grab on.
+// The app took the current touch, which has no hold before a drag from here on. The raw wish is cleared.
 #[no_mangle]
 pub extern "C" fn touch_capture_direct(image: &mut [u8], out: &mut [u64; ANSWER_NUMBERS]) -> u32
     ensures { λ r. ⌜ host r (now (image .exit)) (now (out .exit)) ≡ hosted (now (image .entry)) (λ t. captureDirectOf t) ⌝ }

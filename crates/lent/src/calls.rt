@@ -27,7 +27,7 @@ pub fn tick(t: &mut Tracker, time: u64) -> Told
     told::told_by(a)
 }
 
-// The app took the current touch, its Down or its Drag: on release it is no swipe and no tap.
+// The app took the current touch, its Down or its Drag: the release of its one finger is then no swipe and no tap.
 pub fn capture(t: &mut Tracker) -> Told
     ensures { λ r. ⌜ TellsAndLeaves (captureOf (now (t .entry))) r (now (t .exit)) ⌝ }
 {
@@ -36,7 +36,8 @@ pub fn capture(t: &mut Tracker) -> Told
     told::told_by(a)
 }
 
-// As capture, and this touch drags at once even with hold-to-grab on: a slider, not the scope.
+// The app took the current touch, which has no hold before a drag from here on: a slider, not the scope. The raw wish
+// is cleared.
 pub fn capture_direct(t: &mut Tracker) -> Told
     ensures { λ r. ⌜ TellsAndLeaves (captureDirectOf (now (t .entry))) r (now (t .exit)) ⌝ }
 {
