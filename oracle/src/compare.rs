@@ -1,5 +1,6 @@
 //! Both sides on the same inputs, line by line; and, where they differ, the smallest input that shows it.
 use crate::answers::Side;
+use crate::chosen::text_of;
 use crate::inputs::{any_load, bytes_of, damaged, plain, trace_of, Call, Dice, Hand};
 use crate::play::played;
 use std::io::Write;
@@ -115,6 +116,7 @@ fn shrunk_calls(p: &Programs, calls: Vec<Call>) -> ! {
         }
     }
     let input = bytes_of(&calls);
+    println!("smallest calls: {}", calls.iter().map(text_of).collect::<Vec<_>>().join("; "));
     told("probe", &input, &Side::new().run(&input), &p.run("probe", &input))
 }
 

@@ -248,8 +248,8 @@ pub struct Hand {
 }
 
 /// Differences of time on both sides of every limit.
-const WAITS: [u64; 27] = [
-    0, 0, 1, 2, 5, 8, 10, 20, 20, 50, 100, 150, 298, 299, 300, 301, 400, 699, 700, 701, 799, 800, 801, 1199, 1200, 1999, 2001,
+const WAITS: [u64; 28] = [
+    0, 0, 1, 2, 5, 8, 10, 20, 20, 50, 100, 150, 298, 299, 300, 301, 400, 699, 700, 701, 799, 800, 801, 1199, 1200, 1999, 2000, 2001,
 ];
 
 /// Differences of place on both sides of every limit.
@@ -384,7 +384,7 @@ impl Hand {
     }
 }
 
-fn load(bytes: &[u8]) -> Call {
+pub fn load(bytes: &[u8]) -> Call {
     let mut c = vec![38, bytes.len() as u64];
     c.extend(bytes.iter().map(|&b| u64::from(b)));
     c

@@ -6,6 +6,7 @@
 //!     oracle record SEED              calls for the recorded answers
 //!     oracle compare N SEED FOLDER [WORDS..]   N inputs of each kind through both sides
 mod answers;
+mod chosen;
 mod compare;
 mod gesture;
 mod image;

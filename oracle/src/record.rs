@@ -1,6 +1,7 @@
 //! The calls of the recorded answers: every kind, and histories until every gesture, every note of the log and
-//! every refusal of the probe has come.
+//! every refusal of the probe has come; then the chosen ones.
 use crate::answers::Side;
+use crate::chosen;
 use crate::compare::PLAIN;
 use crate::inputs::{any_load, bytes_of, plain, Call, Dice, Hand};
 
@@ -42,6 +43,7 @@ pub fn calls(seed: u64) -> Vec<u8> {
         let text = String::from_utf8(side.ended()).unwrap();
         let refusals = (1..=7).all(|r| text.lines().any(|l| l.split(' ').nth(1) == Some(&r.to_string())));
         if refusals && SHOWN.iter().all(|w| text.contains(w)) && text.contains(" Resid\n") {
+            calls.extend(chosen::histories());
             return bytes_of(&calls);
         }
     }
