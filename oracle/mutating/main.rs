@@ -1,5 +1,6 @@
 //! Wrong copies of the Rust, one place each, and whether what the gate runs tells them from the original.
 //!
+//!     mutants FOLDER WORK list                    their names
 //!     mutants FOLDER WORK [N [SEED]]              all, or N of them: 'N mutants: K told, E the same, M missed'
 //!     mutants FOLDER WORK same CALLS PROGRAMS..   those that are listed as the same, each through so many random calls
 //!     mutants FOLDER WORK seek CALLS PROGRAMS..   those that are missed, each with a smallest input that tells it
@@ -169,6 +170,9 @@ fn each<T: Send>(root: &Path, work: &Path, some: &[Mutant], f: &(dyn Fn(&Bench, 
                     let i = next.fetch_add(1, Ordering::Relaxed);
                     let Some(m) = some.get(i) else { return };
                     let r = f(&bench, m);
+                    if (i + 1) % 50 == 0 {
+                        eprintln!("{} of {}", i + 1, some.len());
+                    }
                     found.lock().unwrap().push((i, m.clone(), r));
                 }
             });
@@ -274,6 +278,7 @@ fn main() {
                 EXIT.store(1, Ordering::Relaxed);
             }
         }
+        ["list"] => names.iter().for_each(|n| println!("{n}")),
         [] => drop(judge(&root, &work, &all)),
         [n] => drop(judge(&root, &work, &picked(all, n.parse().unwrap(), 1))),
         [n, seed] => drop(judge(&root, &work, &picked(all, n.parse().unwrap(), seed.parse().unwrap()))),
