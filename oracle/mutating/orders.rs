@@ -94,14 +94,14 @@ const ORDERS: [(&str, &str, &str, &str, &str); 12] = [
         "    if !targets.iter().all(|&(x, y)| on_panel(Point { x, y })) {
         return Err(TARGET);
     }
-    let told =",
-        "    if tried(|| touchcal::fit_cal(raw, tgt, targets).is_none()) == Some(true) {
+    match",
+        "    if tried(|| touchcal::fit(raw, tgt, &[]).is_none()) == Some(true) {
         return Err(NOFIT);
     }
     if !targets.iter().all(|&(x, y)| on_panel(Point { x, y })) {
         return Err(TARGET);
     }
-    let told =",
+    match",
     ),
     (
         OWN,

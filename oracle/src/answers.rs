@@ -437,24 +437,10 @@ fn fit(raw: &[(i16, i16)], tgt: &[(i16, i16)], targets: &[(u16, u16)]) -> Result
     if !targets.iter().all(|&(x, y)| on_panel(Point { x, y })) {
         return Err(TARGET);
     }
-    let told = |c: &Cal, mean: u32, max: u32, before: u32, bad| {
-        Ok(format!("{} {mean} {max} {before} {}", joined(c), verdict(bad)))
-    };
     match tried(|| touchcal::fit(raw, tgt, targets)) {
         Some(None) => Err(NOFIT),
-        Some(Some(f)) => told(&f.cal, f.mean, f.max, f.before, f.bad),
-        // it panicked: in resid, which is WIDE, or in check, which document 01 settles
-        None => {
-            let c = touchcal::fit_cal(raw, tgt, targets).unwrap();
-            let n = raw.len().min(tgt.len());
-            let spread = |c: Cal| tried(move || touchcal::resid(&c, &raw[..n], &tgt[..n])).ok_or(WIDE);
-            let (mean, max) = spread(c)?;
-            let (before, _) = spread(touchcal::IDENTITY)?;
-            let bad = match check(&c, targets) {
-                None if max > 250 => Some(Bad::Resid),
-                b => b,
-            };
-            told(&c, mean, max, before, bad)
-        }
+        Some(Some(f)) => Ok(format!("{} {} {} {} {}", joined(&f.cal), f.mean, f.max, f.before, verdict(f.bad))),
+        // it panicked in resid: what passes its check's scales is too small for the check's sums to leave i32
+        None => Err(WIDE),
     }
 }
