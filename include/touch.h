@@ -82,7 +82,10 @@ uint32_t touch_tick(uint8_t *image, size_t bytes, uint64_t time, uint64_t out[TO
 /* The app took the current touch: on release it is no swipe and no tap. */
 uint32_t touch_capture(uint8_t *image, size_t bytes, uint64_t out[TOUCH_OUT]);
 
-/* As touch_capture, and the touch drags at once even with hold-to-grab on. */
+/*
+ * The app took the current touch, which has no hold before a drag from here on. The raw wish is cleared, and no
+ * log line is told.
+ */
 uint32_t touch_capture_direct(uint8_t *image, size_t bytes, uint64_t out[TOUCH_OUT]);
 
 /* Ask for raw moves on the touch that the app is about to capture: 0 is off, any other number on. */

@@ -88,7 +88,7 @@ fn capture_answer(t: Tracker) -> Answer
     answers::answered(Given::Nothing, Log::Silent, captures::with_wish(t, false))
 }
 
-// The app took the current touch, its Down or its Drag: on release it is no swipe and no tap.
+// The app took the current touch, its Down or its Drag: the release of its one finger is then no swipe and no tap.
 pub fn capture(t: Tracker) -> Answer
     ensures { λ r. ⌜ r ≡ captureOf t ⌝ }
 {
@@ -98,7 +98,8 @@ pub fn capture(t: Tracker) -> Answer
     answers::refused(Refusal::State, t)
 }
 
-// As capture, and this touch drags at once even with hold-to-grab on: a slider, not the scope.
+// The app took the current touch, which has no hold before a drag from here on: a slider, not the scope. The raw wish
+// is cleared.
 pub fn capture_direct(t: Tracker) -> Answer
     ensures { λ r. ⌜ r ≡ captureDirectOf t ⌝ }
 {

@@ -1,4 +1,5 @@
-// The app takes a touch, and its settings. A touch that is taken is no swipe and no tap on release.
+// The app takes a touch, and its settings. The release of the one finger of a touch that
+// is taken is no swipe and no tap.
 ghost use mathlib.Core.Path.{_≡_};
 ghost use Prim.Native.Nat.{min};
 ghost use Rattle.fingers.specs.Sizes.{grabMost};

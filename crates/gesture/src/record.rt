@@ -15,7 +15,7 @@ pub enum Touch {
     Down(Point, u64),
     // The touch had two or more fingers, and may have a pair to tell a pinch by.
     Multi(Multi, Pairing),
-    // The remaining finger of a multi-finger touch: no gesture until it is up.
+    // The remaining finger of a multi-finger touch: key changes alone are told until it is up or gains another.
     Residual,
 }
 
@@ -34,7 +34,7 @@ pub struct Tracker {
     // ... and as the last report has them. They differ after a report that changed more than one key: the
     // rest is told one key per call, releases first, at the next report or tick.
     pub keys_want: u8,
-    // The next capture makes the touch a raw-move touch.
+    // A capture that takes the touch makes it a raw-move touch. Every capture uses the wish up.
     pub raw_next: bool,
     // Hold-to-grab time, 0 for direct drags.
     pub grab_ms: u16,

@@ -69,7 +69,7 @@ fn is_last_finger(end: MultiEnd, now: u64) -> bool
     }
 }
 
-// The remaining finger is part of the multi-finger touch, ignored until it is up.
+// The remaining finger is part of the multi-finger touch, ignored until it is up or gains another.
 fn residual(t: Tracker, p: Point) -> Step
     ensures { λ r. ⌜ r ≡ residualTouch t p ⌝ }
 {
