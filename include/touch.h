@@ -79,7 +79,7 @@ uint32_t touch_event(uint8_t *image, size_t bytes, uint64_t time, uint8_t keys, 
 /* To be called periodically, between the reports. */
 uint32_t touch_tick(uint8_t *image, size_t bytes, uint64_t time, uint64_t out[TOUCH_OUT]);
 
-/* The app took the current touch: on release it is no swipe and no tap. */
+/* The app took the current touch: the release of its one finger is then no swipe and no tap. */
 uint32_t touch_capture(uint8_t *image, size_t bytes, uint64_t out[TOUCH_OUT]);
 
 /*
