@@ -1,9 +1,9 @@
 /*
  * Areas that are no tracker's image, and reports off the panel, as a C host can hand them over. Which areas are images is
  * read here a second time, from the table of docs/IMAGE.md and document 01's rule of states, and the archive's
- * verdict is held to that reading: for the areas of the recorded run with each byte set to each other value and each number
- * to its bounds, for areas joined of two of them, and for wrong lengths. A refused call alters nothing and tells zeros; an answered one leaves an
- * image.
+ * verdict is held to that reading: for the areas of the recorded run with each byte set to each other value and each
+ * number to its bounds, for areas joined of two of them, and for wrong lengths. A refused call alters nothing and tells
+ * zeros; an answered one leaves an image.
  *
  *     areas LINES     crates/probe/stdout (docs/PROBE.md)
  */
