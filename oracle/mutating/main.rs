@@ -1,6 +1,7 @@
 //! Wrong copies of the Rust, one place each, and whether what the gate runs tells them from the original.
 //!
 //!     mutants FOLDER WORK list                    their names
+//!     mutants FOLDER WORK named FILE              those whose names are the file's lines
 //!     mutants FOLDER WORK [N [SEED]]              all, or N of them: 'N mutants: K told, E the same, M missed'
 //!     mutants FOLDER WORK same CALLS PROGRAMS..   those that are listed as the same, each through so many random calls
 //!     mutants FOLDER WORK seek CALLS PROGRAMS..   those that are missed, each with a smallest input that tells it
@@ -279,6 +280,11 @@ fn main() {
             }
         }
         ["list"] => names.iter().for_each(|n| println!("{n}")),
+        ["named", file] => {
+            let named = std::fs::read_to_string(file).unwrap();
+            let named: BTreeSet<&str> = named.lines().map(|l| l.split(" | ").next().unwrap()).collect();
+            drop(judge(&root, &work, &all.into_iter().filter(|m| named.contains(m.name().as_str())).collect::<Vec<_>>()))
+        }
         [] => drop(judge(&root, &work, &all)),
         [n] => drop(judge(&root, &work, &picked(all, n.parse().unwrap(), 1))),
         [n, seed] => drop(judge(&root, &work, &picked(all, n.parse().unwrap(), seed.parse().unwrap()))),

@@ -24,6 +24,7 @@ impl Mutant {
 enum Kind {
     Word,
     Number,
+    Letter,
     Sign,
 }
 
@@ -77,9 +78,10 @@ fn tokens(text: &str) -> Vec<Token> {
             // b'G'
             if s.get(at) == Some(&b'\'') && at - from == 1 && s[from] == b'b' {
                 at += passed_over(s, at);
-                continue;
+                Kind::Letter
+            } else {
+                Kind::Word
             }
-            Kind::Word
         } else if s[at].is_ascii_whitespace() {
             at += 1;
             continue;
@@ -149,6 +151,22 @@ fn instead(sign: &str) -> &'static [&'static str] {
         "saturating_sub" => &["wrapping_sub"],
         "all" => &["any"],
         "any" => &["all"],
+        "*" => &["+"],
+        "/" => &["*"],
+        "&" => &["|"],
+        "<<" => &[">>"],
+        ">>" => &["<<"],
+        "^=" => &["|="],
+        "is_some" => &["is_none"],
+        "is_none" => &["is_some"],
+        "H" => &["V"],
+        "V" => &["H"],
+        "SwipeLeft" => &["SwipeRight"],
+        "SwipeRight" => &["SwipeLeft"],
+        "SwipeUp" => &["SwipeDown"],
+        "SwipeDown" => &["SwipeUp"],
+        "KeyUp" => &["KeyDown"],
+        "KeyDown" => &["KeyUp"],
         _ => &[],
     }
 }
@@ -186,6 +204,28 @@ fn assignment(text: &str, t: &[Token], k: usize) -> Option<usize> {
     None
 }
 
+/// The test of an `if` that begins at a token, up to its block; not one that takes a value apart.
+fn test(text: &str, t: &[Token], k: usize) -> Option<(usize, usize)> {
+    let word = |k: usize| t.get(k).map_or("", |t| &text[t.from..t.to]);
+    if word(k) != "if" || word(k + 1) == "let" {
+        return None;
+    }
+    let (mut j, mut depth) = (k + 1, 0i32);
+    while j < t.len() {
+        match word(j) {
+            "(" | "[" => depth += 1,
+            ")" | "]" => depth -= 1,
+            "{" | "=>" if depth == 0 => return Some((t[k + 1].from, t[j - 1].to)),
+            _ => {}
+        }
+        if depth < 0 {
+            return None;
+        }
+        j += 1;
+    }
+    None
+}
+
 /// All wrong texts of a file with one place changed, between the places `within`.
 pub fn of(file: &'static str, text: &str, within: std::ops::Range<usize>) -> Vec<Mutant> {
     let t = tokens(text);
@@ -206,11 +246,24 @@ pub fn of(file: &'static str, text: &str, within: std::ops::Range<usize>) -> Vec
             Kind::Number => numbers(word),
             Kind::Sign if spaced => instead(word).iter().map(|w| w.to_string()).collect(),
             Kind::Word => instead(word).iter().map(|w| w.to_string()).collect(),
+            Kind::Letter => vec!["b'?'".into()],
             Kind::Sign => Vec::new(),
         };
         for new in news {
             let what = format!("{word} -> {new}");
             add(from, to, new, what);
+        }
+        // a call on a value left out: it stays as it is, or keeps what it had
+        for call in [".abs()", ".take()"] {
+            if text[from..].starts_with(call) {
+                add(from, from + call.len(), String::new(), format!("left out: {call}"));
+            }
+        }
+        // a test that always holds, or never
+        if let Some((start, end)) = test(text, &t, k) {
+            for new in ["true", "false"] {
+                add(start, end, new.into(), format!("if .. -> if {new}"));
+            }
         }
         // a test turned over
         if word == "!" && !s[from - 1].is_ascii_alphanumeric() && !s.get(to).is_some_and(u8::is_ascii_whitespace) {
