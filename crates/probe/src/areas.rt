@@ -7,7 +7,7 @@ use trace::Cursor;
 // What is kept of an area: more than an image has, so that a longer one is refused as it would be whole.
 const KEPT: usize = 256;
 
-pub struct Area {
+pub(crate) struct Area {
     pub decoded: DecodeAnswer,
     pub to: Cursor,
 }
@@ -31,7 +31,7 @@ fn decoded(area: &[u8], n: usize) -> DecodeAnswer {
 }
 
 // The next n bytes, as an image.
-pub fn area_at(s: &[u8], c: Cursor, n: usize) -> Area {
+pub(crate) fn area_at(s: &[u8], c: Cursor, n: usize) -> Area {
     let mut area = [0u8; KEPT];
     let mut to = c;
     let mut i = 0;

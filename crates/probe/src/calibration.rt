@@ -3,6 +3,9 @@
 use crate::args;
 use crate::args::NUMBERS;
 use crate::lines;
+use crate::lines::PIECES;
+use crate::lines::Piece;
+use crate::lines::Reply;
 use crate::lists::Beside;
 use crate::lists::Targets;
 use calmap::ApplyAnswer;
@@ -23,47 +26,43 @@ use touchcal::PutAnswer;
 use touchcal::Q16Answer;
 use touchcal::TakeAnswer;
 
-// A line was printed up to `at`, and this is pending now.
-pub struct Printed {
-    pub at: usize,
+// What a call on the pending record is answered with, and what is pending now.
+pub(crate) struct Kept {
+    pub reply: Reply,
     pub pending: Pending,
 }
 
-fn spotted(out: &mut [u8], at: usize, i: u64, s: Spot) -> usize {
+fn spotted(s: Spot) -> Reply {
     let x = s.0;
     let y = s.1;
-    let a = lines::head(out, at, i, 0);
-    let b = lines::signed(out, a, x.0);
-    let c = lines::signed(out, b, y.0);
-    lines::end(out, c)
+    lines::two(lines::signed(x.0), lines::signed(y.0))
 }
 
-pub fn apply16(out: &mut [u8], at: usize, i: u64, v: [u64; NUMBERS]) -> usize {
+pub(crate) fn apply16(v: [u64; NUMBERS]) -> Reply {
     let r = calmap::apply16(args::cal(v), args::signed32(v[6]), args::signed32(v[7]));
     match r {
-        ApplyAnswer::Answered(s) => spotted(out, at, i, s),
-        ApplyAnswer::Refused(why) => lines::refused(out, at, i, why),
+        ApplyAnswer::Answered(s) => spotted(s),
+        ApplyAnswer::Refused(why) => lines::refused(why),
     }
 }
 
-pub fn screen(out: &mut [u8], at: usize, i: u64, v: [u64; NUMBERS]) -> usize {
+pub(crate) fn screen(v: [u64; NUMBERS]) -> Reply {
     let r = calmap::screen(args::cal(v), args::point(v[6], v[7]));
     match r {
-        ScreenAnswer::Answered(p) => lines::placed(out, at, i, p),
-        ScreenAnswer::Refused(why) => lines::refused(out, at, i, why),
+        ScreenAnswer::Answered(p) => lines::placed(p),
+        ScreenAnswer::Refused(why) => lines::refused(why),
     }
 }
 
-pub fn isqrt(out: &mut [u8], at: usize, i: u64, v: [u64; NUMBERS]) -> usize {
-    let r = calmap::isqrt(v[0]);
-    lines::counted(out, at, i, r)
+pub(crate) fn isqrt(v: [u64; NUMBERS]) -> Reply {
+    lines::counted(calmap::isqrt(v[0]))
 }
 
 fn sixteenths(v: u64) -> Sixteenths {
     Sixteenths(args::signed32(v))
 }
 
-pub fn dist10(out: &mut [u8], at: usize, i: u64, v: [u64; NUMBERS]) -> usize {
+pub(crate) fn dist10(v: [u64; NUMBERS]) -> Reply {
     let r = calmap::dist10(
         sixteenths(v[0]),
         sixteenths(v[1]),
@@ -71,64 +70,53 @@ pub fn dist10(out: &mut [u8], at: usize, i: u64, v: [u64; NUMBERS]) -> usize {
         sixteenths(v[3]),
     );
     match r {
-        Dist10Answer::Answered(t) => lines::counted(out, at, i, t.0 as u64),
-        Dist10Answer::Refused(why) => lines::refused(out, at, i, why),
+        Dist10Answer::Answered(t) => lines::counted(t.0 as u64),
+        Dist10Answer::Refused(why) => lines::refused(why),
     }
 }
 
-fn spread(out: &mut [u8], at: usize, i: u64, s: Spread) -> usize {
+fn spread(s: Spread) -> Reply {
     let mean = s.mean;
     let max = s.max;
-    let a = lines::head(out, at, i, 0);
-    let b = lines::number(out, a, mean.0 as u64);
-    let c = lines::number(out, b, max.0 as u64);
-    lines::end(out, c)
+    lines::two(lines::number(mean.0 as u64), lines::number(max.0 as u64))
 }
 
-pub fn resid(out: &mut [u8], at: usize, i: u64, v: [u64; NUMBERS], b: Beside) -> usize {
+pub(crate) fn resid(v: [u64; NUMBERS], b: Beside) -> Reply {
     let list = b.list;
     let r = calmap::resid_of(args::cal(v), list, b.n);
     match r {
-        ResidAnswer::Answered(s) => spread(out, at, i, s),
-        ResidAnswer::Refused(why) => lines::refused(out, at, i, why),
+        ResidAnswer::Answered(s) => spread(s),
+        ResidAnswer::Refused(why) => lines::refused(why),
     }
 }
 
-fn verdict(out: &mut [u8], at: usize, v: Verdict) -> usize {
+fn verdict(v: Verdict) -> u64 {
     match v {
-        Verdict::Pass => lines::word(out, at, b" Ok"),
-        Verdict::Scale => lines::word(out, at, b" Scale"),
-        Verdict::Shift => lines::word(out, at, b" Shift"),
-        Verdict::Resid => lines::word(out, at, b" Resid"),
+        Verdict::Pass => lines::OK,
+        Verdict::Scale => lines::SCALE,
+        Verdict::Shift => lines::SHIFT,
+        Verdict::Resid => lines::RESID,
     }
 }
 
-fn judged(out: &mut [u8], at: usize, i: u64, v: Verdict) -> usize {
-    let a = lines::head(out, at, i, 0);
-    let b = verdict(out, a, v);
-    lines::end(out, b)
-}
-
-pub fn check(out: &mut [u8], at: usize, i: u64, v: [u64; NUMBERS], t: Targets) -> usize {
+pub(crate) fn check(v: [u64; NUMBERS], t: Targets) -> Reply {
     let list = t.list;
     let r = calmap::check_of(args::cal(v), list, t.n);
     match r {
-        CheckAnswer::Answered(w) => judged(out, at, i, w),
-        CheckAnswer::Refused(why) => lines::refused(out, at, i, why),
+        CheckAnswer::Answered(w) => lines::told(verdict(w)),
+        CheckAnswer::Refused(why) => lines::refused(why),
     }
 }
 
-fn stepped(out: &mut [u8], at: usize, i: u64, n: i32) -> usize {
-    let a = lines::head(out, at, i, 0);
-    let b = lines::signed(out, a, n);
-    lines::end(out, b)
+fn stepped(n: i32) -> Reply {
+    lines::answered(lines::one(lines::signed(n)))
 }
 
-pub fn q16(out: &mut [u8], at: usize, i: u64, v: [u64; NUMBERS]) -> usize {
+pub(crate) fn q16(v: [u64; NUMBERS]) -> Reply {
     let r = touchcal::q16(args::float(v[0]));
     match r {
-        Q16Answer::Answered(n) => stepped(out, at, i, n.0),
-        Q16Answer::Refused(why) => lines::refused(out, at, i, why),
+        Q16Answer::Answered(n) => stepped(n.0),
+        Q16Answer::Refused(why) => lines::refused(why),
     }
 }
 
@@ -137,108 +125,105 @@ fn wide(n: u32) -> u64 {
 }
 
 // A float as its pattern; what is no number has none here.
-fn pattern(out: &mut [u8], at: usize, x: f32) -> usize {
+fn pattern(x: f32) -> Piece {
     if x == x {
-        return lines::number(out, at, wide(f32::to_bits(x)));
+        return lines::number(wide(f32::to_bits(x)));
     }
-    lines::word(out, at, b" NaN")
+    lines::named(lines::NAN)
 }
 
-pub fn to_f32(out: &mut [u8], at: usize, i: u64, v: [u64; NUMBERS]) -> usize {
+pub(crate) fn to_f32(v: [u64; NUMBERS]) -> Reply {
     let r = touchcal::to_f32(args::cal(v));
-    let h = lines::head(out, at, i, 0);
-    let a = pattern(out, h, r.a);
-    let b = pattern(out, a, r.b);
-    let c = pattern(out, b, r.c);
-    let d = pattern(out, c, r.d);
-    let e = pattern(out, d, r.e);
-    let f = pattern(out, e, r.f);
-    lines::end(out, f)
+    let six = lines::row(
+        pattern(r.a),
+        pattern(r.b),
+        pattern(r.c),
+        pattern(r.d),
+        pattern(r.e),
+        pattern(r.f),
+        lines::nothing(),
+    );
+    lines::answered(six)
 }
 
-fn six(out: &mut [u8], at: usize, c: Cal) -> usize {
+// The six numbers of a calibration.
+fn six(c: Cal) -> [Piece; PIECES] {
     let c0 = c.c0;
     let c1 = c.c1;
     let c2 = c.c2;
     let c3 = c.c3;
     let c4 = c.c4;
     let c5 = c.c5;
-    let a = lines::signed(out, at, c0.0);
-    let b = lines::signed(out, a, c1.0);
-    let d = lines::signed(out, b, c2.0);
-    let e = lines::signed(out, d, c3.0);
-    let f = lines::signed(out, e, c4.0);
-    lines::signed(out, f, c5.0)
+    lines::row(
+        lines::signed(c0.0),
+        lines::signed(c1.0),
+        lines::signed(c2.0),
+        lines::signed(c3.0),
+        lines::signed(c4.0),
+        lines::signed(c5.0),
+        lines::nothing(),
+    )
 }
 
-fn in_steps(out: &mut [u8], at: usize, i: u64, c: Cal) -> usize {
-    let a = lines::head(out, at, i, 0);
-    let b = six(out, a, c);
-    lines::end(out, b)
+fn in_steps(c: Cal) -> Reply {
+    lines::answered(six(c))
 }
 
-pub fn from_f32(out: &mut [u8], at: usize, i: u64, v: [u64; NUMBERS]) -> usize {
+pub(crate) fn from_f32(v: [u64; NUMBERS]) -> Reply {
     let r = touchcal::from_f32(args::coefs(v));
     match r {
-        CalAnswer::Answered(c) => in_steps(out, at, i, c),
-        CalAnswer::Refused(why) => lines::refused(out, at, i, why),
+        CalAnswer::Answered(c) => in_steps(c),
+        CalAnswer::Refused(why) => lines::refused(why),
     }
 }
 
-fn fitted(out: &mut [u8], at: usize, i: u64, f: Fit) -> usize {
-    let cal = f.cal;
+fn fitted(f: Fit) -> Reply {
     let mean = f.mean;
     let max = f.max;
     let before = f.before;
     let v = f.verdict;
-    let a = lines::head(out, at, i, 0);
-    let b = six(out, a, cal);
-    let c = lines::number(out, b, mean.0 as u64);
-    let d = lines::number(out, c, max.0 as u64);
-    let e = lines::number(out, d, before.0 as u64);
-    let g = verdict(out, e, v);
-    lines::end(out, g)
+    let mut said = six(f.cal);
+    said[6] = lines::number(mean.0 as u64);
+    said[7] = lines::number(max.0 as u64);
+    said[8] = lines::number(before.0 as u64);
+    said[9] = lines::named(verdict(v));
+    lines::answered(said)
 }
 
-pub fn fit(out: &mut [u8], at: usize, i: u64, b: Beside, t: Targets) -> usize {
+pub(crate) fn fit(b: Beside, t: Targets) -> Reply {
     let pairs = b.list;
     let targets = t.list;
     let r = touchcal::fit_of(pairs, b.n, targets, t.n);
     match r {
-        FitAnswer::Answered(f) => fitted(out, at, i, f),
-        FitAnswer::Refused(why) => lines::refused(out, at, i, why),
+        FitAnswer::Answered(f) => fitted(f),
+        FitAnswer::Refused(why) => lines::refused(why),
     }
 }
 
-fn and_pending(at: usize, pending: Pending) -> Printed {
-    Printed { at, pending }
+fn and_pending(reply: Reply, pending: Pending) -> Kept {
+    Kept { reply, pending }
 }
 
-pub fn scpi_put(out: &mut [u8], at: usize, i: u64, v: [u64; NUMBERS], p: Pending) -> Printed {
+fn scpi_put(v: [u64; NUMBERS], p: Pending) -> Kept {
     let r = touchcal::scpi_put(p, args::coefs(v));
     match r {
-        PutAnswer::Answered(q) => {
-            let a = lines::head(out, at, i, 0);
-            let b = lines::end(out, a);
-            and_pending(b, q)
-        }
-        PutAnswer::Refused(why, q) => {
-            let a = lines::refused(out, at, i, why);
-            and_pending(a, q)
-        }
+        PutAnswer::Answered(q) => and_pending(lines::answered(lines::silent()), q),
+        PutAnswer::Refused(why, q) => and_pending(lines::refused(why), q),
     }
 }
 
-pub fn scpi_take(out: &mut [u8], at: usize, i: u64, p: Pending) -> Printed {
+fn scpi_take(p: Pending) -> Kept {
     let r = touchcal::scpi_take(p);
     match r {
-        TakeAnswer::Taken(c, q) => {
-            let a = in_steps(out, at, i, c);
-            and_pending(a, q)
-        }
-        TakeAnswer::Nothing(q) => {
-            let a = lines::told(out, at, i, b"-");
-            and_pending(a, q)
-        }
+        TakeAnswer::Taken(c, q) => and_pending(in_steps(c), q),
+        TakeAnswer::Nothing(q) => and_pending(lines::told(lines::DASH), q),
     }
+}
+
+// The calls on the pending record.
+pub(crate) fn pending(kind: u64, v: [u64; NUMBERS], p: Pending) -> Kept {
+    if kind == 20 {
+        return scpi_put(v, p);
+    }
+    scpi_take(p)
 }

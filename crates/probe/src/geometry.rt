@@ -2,57 +2,54 @@
 use crate::args;
 use crate::args::NUMBERS;
 use crate::lines;
+use crate::lines::Reply;
 use panel::Axis;
 use panel::AxisLock;
 use panel::CentroidAnswer;
 use panel::DistAnswer;
 use panel::LockAnswer;
 
-fn measured(out: &mut [u8], at: usize, i: u64, d: DistAnswer) -> usize {
+fn measured(d: DistAnswer) -> Reply {
     match d {
-        DistAnswer::Answered(v) => lines::counted(out, at, i, v as u64),
-        DistAnswer::Refused(why) => lines::refused(out, at, i, why),
+        DistAnswer::Answered(v) => lines::counted(v as u64),
+        DistAnswer::Refused(why) => lines::refused(why),
     }
 }
 
-pub fn dist(out: &mut [u8], at: usize, i: u64, v: [u64; NUMBERS]) -> usize {
-    let p = args::point(v[0], v[1]);
-    let q = args::point(v[2], v[3]);
-    measured(out, at, i, panel::dist(p, q))
+pub(crate) fn dist(v: [u64; NUMBERS]) -> Reply {
+    measured(panel::dist(args::point(v[0], v[1]), args::point(v[2], v[3])))
 }
 
-pub fn dist2(out: &mut [u8], at: usize, i: u64, v: [u64; NUMBERS]) -> usize {
-    let p = args::point(v[0], v[1]);
-    let q = args::point(v[2], v[3]);
-    measured(out, at, i, panel::dist2(p, q))
+pub(crate) fn dist2(v: [u64; NUMBERS]) -> Reply {
+    measured(panel::dist2(args::point(v[0], v[1]), args::point(v[2], v[3])))
 }
 
-pub fn centroid(out: &mut [u8], at: usize, i: u64, v: [u64; NUMBERS]) -> usize {
-    let c = panel::centroid(args::low8(v[0]), args::points(v, 1));
+pub(crate) fn centroid(v: [u64; NUMBERS]) -> Reply {
+    let c = panel::centroid(args::low8(v[4]), args::points(v));
     match c {
-        CentroidAnswer::Answered(p) => lines::placed(out, at, i, p),
-        CentroidAnswer::Refused(why) => lines::refused(out, at, i, why),
+        CentroidAnswer::Answered(p) => lines::placed(p),
+        CentroidAnswer::Refused(why) => lines::refused(why),
     }
 }
 
-fn locked(out: &mut [u8], at: usize, i: u64, a: Axis) -> usize {
+fn locked(a: Axis) -> Reply {
     match a {
-        Axis::H => lines::told(out, at, i, b"H"),
-        Axis::V => lines::told(out, at, i, b"V"),
+        Axis::H => lines::told(lines::H),
+        Axis::V => lines::told(lines::V),
     }
 }
 
-fn found(out: &mut [u8], at: usize, i: u64, l: AxisLock) -> usize {
+fn found(l: AxisLock) -> Reply {
     match l {
-        AxisLock::Free => lines::told(out, at, i, b"-"),
-        AxisLock::On(a) => locked(out, at, i, a),
+        AxisLock::Free => lines::told(lines::DASH),
+        AxisLock::On(a) => locked(a),
     }
 }
 
-pub fn lock_axis(out: &mut [u8], at: usize, i: u64, v: [u64; NUMBERS]) -> usize {
+pub(crate) fn lock_axis(v: [u64; NUMBERS]) -> Reply {
     let l = panel::lock_axis(args::signed32(v[0]), args::signed32(v[1]));
     match l {
-        LockAnswer::Answered(a) => found(out, at, i, a),
-        LockAnswer::Refused(why) => lines::refused(out, at, i, why),
+        LockAnswer::Answered(a) => found(a),
+        LockAnswer::Refused(why) => lines::refused(why),
     }
 }

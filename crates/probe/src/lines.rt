@@ -1,14 +1,214 @@
-// What is printed, gathered in one buffer: words, numbers, points and bytes of an image. Every piece goes
-// behind the last one; the buffer is written out before it could be full (see main).
+// What is printed, gathered in one buffer. A line is a row of pieces, made by value and written in one place:
+// a function that hands the buffer on is dear to prove, one that makes a piece is not. The buffer is written
+// out before it could be full (see main).
 use panel::Point;
 use panel::Refusal;
+use trace::Cursor;
 
 // The buffer's size, and how much of it one line may take: the longest is a tracker line, under 400 bytes.
-pub const ROOM: usize = 65536;
+pub(crate) const ROOM: usize = 65536;
 
-pub const LINE_MOST: usize = 1024;
+pub(crate) const LINE_MOST: usize = 1024;
 
-pub fn byte(out: &mut [u8], at: usize, b: u8) -> usize {
+// The most pieces behind a line's head: those of a fit.
+pub(crate) const PIECES: usize = 10;
+
+// What a piece prints: nothing; a space and then a word, a number, a number below zero, or a byte; or a line's
+// first word, with no space.
+const NOTHING: u8 = 0;
+
+const WORD: u8 = 1;
+
+const NUMBER: u8 = 2;
+
+const BELOW: u8 = 3;
+
+const BYTE: u8 = 4;
+
+const FIRST: u8 = 5;
+
+// A word goes by its place in the list of words, a number below zero by its magnitude.
+pub(crate) struct Piece {
+    how: u8,
+    v: u64,
+}
+
+// What a call is answered with: its refusal, and the pieces behind it.
+pub(crate) struct Reply {
+    pub refusal: u8,
+    pub said: [Piece; PIECES],
+}
+
+// The places of the words, see `word`.
+pub(crate) const DASH: u64 = 0;
+
+pub(crate) const BAR: u64 = 1;
+
+pub(crate) const H: u64 = 2;
+
+pub(crate) const V: u64 = 3;
+
+pub(crate) const NAN: u64 = 4;
+
+pub(crate) const OK: u64 = 5;
+
+pub(crate) const SCALE: u64 = 6;
+
+pub(crate) const SHIFT: u64 = 7;
+
+pub(crate) const RESID: u64 = 8;
+
+pub(crate) const DOWN: u64 = 9;
+
+pub(crate) const TAP: u64 = 10;
+
+pub(crate) const LONG_PRESS: u64 = 11;
+
+pub(crate) const DRAG: u64 = 12;
+
+pub(crate) const GRAB: u64 = 13;
+
+pub(crate) const UP: u64 = 14;
+
+pub(crate) const SWIPE_LEFT: u64 = 15;
+
+pub(crate) const SWIPE_RIGHT: u64 = 16;
+
+pub(crate) const SWIPE_UP: u64 = 17;
+
+pub(crate) const SWIPE_DOWN: u64 = 18;
+
+pub(crate) const CANCEL: u64 = 19;
+
+pub(crate) const MULTI_SWIPE_DOWN: u64 = 20;
+
+pub(crate) const KEY_DOWN: u64 = 21;
+
+pub(crate) const KEY_UP: u64 = 22;
+
+pub(crate) const MOVE: u64 = 23;
+
+pub(crate) const PINCH: u64 = 24;
+
+pub(crate) const PINCH_END: u64 = 25;
+
+const END: u64 = 26;
+
+const STOPPED: u64 = 27;
+
+const AT: u64 = 28;
+
+pub(crate) fn nothing() -> Piece {
+    Piece { how: NOTHING, v: 0 }
+}
+
+pub(crate) fn named(word: u64) -> Piece {
+    Piece { how: WORD, v: word }
+}
+
+pub(crate) fn number(v: u64) -> Piece {
+    Piece { how: NUMBER, v }
+}
+
+pub(crate) fn signed(v: i32) -> Piece {
+    let m = panel::magnitude(v) as u64;
+    if v < 0 {
+        return Piece { how: BELOW, v: m };
+    }
+    Piece { how: NUMBER, v: m }
+}
+
+pub(crate) fn letter(b: u8) -> Piece {
+    Piece {
+        how: BYTE,
+        v: b as u64,
+    }
+}
+
+// Seven pieces or fewer.
+pub(crate) fn row(
+    a: Piece,
+    b: Piece,
+    c: Piece,
+    d: Piece,
+    e: Piece,
+    f: Piece,
+    g: Piece,
+) -> [Piece; PIECES] {
+    let z = nothing();
+    [a, b, c, d, e, f, g, z, z, z]
+}
+
+pub(crate) fn three(a: Piece, b: Piece, c: Piece) -> [Piece; PIECES] {
+    let z = nothing();
+    [a, b, c, z, z, z, z, z, z, z]
+}
+
+pub(crate) fn one(a: Piece) -> [Piece; PIECES] {
+    let z = nothing();
+    three(a, z, z)
+}
+
+pub(crate) fn silent() -> [Piece; PIECES] {
+    one(nothing())
+}
+
+pub(crate) fn answered(said: [Piece; PIECES]) -> Reply {
+    Reply { refusal: 0, said }
+}
+
+pub(crate) fn refused(why: Refusal) -> Reply {
+    Reply {
+        refusal: panel::number(why),
+        said: silent(),
+    }
+}
+
+pub(crate) fn told(word: u64) -> Reply {
+    answered(one(named(word)))
+}
+
+pub(crate) fn counted(n: u64) -> Reply {
+    answered(one(number(n)))
+}
+
+pub(crate) fn two(a: Piece, b: Piece) -> Reply {
+    answered(three(a, b, nothing()))
+}
+
+pub(crate) fn placed(p: Point) -> Reply {
+    two(number(p.x as u64), number(p.y as u64))
+}
+
+fn opening(word: u64) -> Piece {
+    Piece {
+        how: FIRST,
+        v: word,
+    }
+}
+
+fn stopped(why: Refusal, place: usize) -> [Piece; PIECES] {
+    let z = nothing();
+    row(
+        opening(STOPPED),
+        number(panel::number(why) as u64),
+        named(AT),
+        number(place as u64),
+        z,
+        z,
+        z,
+    )
+}
+
+// The last line of a run, by whether it was read to its end.
+pub(crate) fn last(calls: u64, to: Cursor) -> [Piece; PIECES] {
+    match to {
+        Cursor::At(_) => three(opening(END), number(calls), nothing()),
+        Cursor::Stop(why, place) => stopped(why, place),
+    }
+}
+
+pub(crate) fn byte(out: &mut [u8], at: usize, b: u8) -> usize {
     if at < out.len() {
         out[at] = b;
         return at + 1;
@@ -16,7 +216,45 @@ pub fn byte(out: &mut [u8], at: usize, b: u8) -> usize {
     at
 }
 
-pub fn word(out: &mut [u8], at: usize, w: &[u8]) -> usize {
+// A letter of the list of words, if it is of that word.
+fn of_word(out: &mut [u8], at: usize, b: u8, k: u64, word: u64) -> usize {
+    if b == b' ' {
+        return at;
+    }
+    if k == word {
+        return byte(out, at, b);
+    }
+    at
+}
+
+// The word's place behind that letter. There are fewer than 1000 words.
+fn next_word(b: u8, k: u64) -> u64 {
+    if b == b' ' {
+        if k < 1000 {
+            return k + 1;
+        }
+    }
+    k
+}
+
+// The words that are printed, each at its place: those of the calibration, the gestures as the trace
+// program prints them, and those of a last line. A new word goes behind the last.
+fn word(out: &mut [u8], at: usize, word: u64) -> usize {
+    let w =
+        b"- | H V NaN Ok Scale Shift Resid Down Tap LongPress Drag Grab Up SwipeLeft SwipeRight SwipeUp SwipeDown Cancel MultiSwipeDown KeyDown KeyUp Move Pinch PinchEnd end stopped at";
+    let mut to = at;
+    let mut k = 0;
+    let mut i = 0;
+    while i < w.len() {
+        let b = w[i];
+        to = of_word(out, to, b, k, word);
+        k = next_word(b, k);
+        i += 1;
+    }
+    to
+}
+
+fn text(out: &mut [u8], at: usize, w: &[u8]) -> usize {
     let mut to = at;
     let mut i = 0;
     while i < w.len() {
@@ -26,27 +264,73 @@ pub fn word(out: &mut [u8], at: usize, w: &[u8]) -> usize {
     to
 }
 
-// The digits of a number.
-pub fn digits(out: &mut [u8], at: usize, n: u64) -> usize {
-    let mut text = [0u8; 20];
-    let k = io::decimal(n, &mut text);
-    word(out, at, &text[..k])
+fn digits(out: &mut [u8], at: usize, n: u64) -> usize {
+    let mut t = [0u8; 20];
+    let k = io::decimal(n, &mut t);
+    text(out, at, &t[..k])
 }
 
-// A space and a number.
-pub fn number(out: &mut [u8], at: usize, n: u64) -> usize {
-    let a = byte(out, at, b' ');
+fn below(out: &mut [u8], at: usize, n: u64) -> usize {
+    let a = byte(out, at, b'-');
     digits(out, a, n)
 }
 
-pub fn signed(out: &mut [u8], at: usize, v: i32) -> usize {
-    let a = byte(out, at, b' ');
-    let m = panel::magnitude(v) as u64;
-    if v < 0 {
-        let b = byte(out, a, b'-');
-        return digits(out, b, m);
+fn low8(v: u64) -> u8 {
+    (v % 256) as u8
+}
+
+fn behind_space(out: &mut [u8], at: usize, how: u8, v: u64) -> usize {
+    match how {
+        WORD => word(out, at, v),
+        NUMBER => digits(out, at, v),
+        BELOW => below(out, at, v),
+        _ => byte(out, at, low8(v)),
     }
-    digits(out, a, m)
+}
+
+fn put(out: &mut [u8], at: usize, p: Piece) -> usize {
+    if p.how == NOTHING {
+        return at;
+    }
+    if p.how == FIRST {
+        return word(out, at, p.v);
+    }
+    let a = byte(out, at, b' ');
+    behind_space(out, a, p.how, p.v)
+}
+
+pub(crate) fn pieces(out: &mut [u8], at: usize, p: [Piece; PIECES]) -> usize {
+    let mut to = at;
+    let mut i = 0;
+    while i < PIECES {
+        let q = p[i];
+        to = put(out, to, q);
+        i += 1;
+    }
+    to
+}
+
+// How a line begins: the call's number and its refusal.
+pub(crate) fn head(out: &mut [u8], at: usize, i: u64, refusal: u8) -> usize {
+    let a = digits(out, at, i);
+    put(out, a, number(refusal as u64))
+}
+
+pub(crate) fn ended(out: &mut [u8], at: usize, said: [Piece; PIECES]) -> usize {
+    let a = pieces(out, at, said);
+    byte(out, a, b'\n')
+}
+
+// A whole line, if the call was read to its end.
+pub(crate) fn line(out: &mut [u8], at: usize, i: u64, to: Cursor, r: Reply) -> usize {
+    let said = r.said;
+    match to {
+        Cursor::At(_) => {
+            let a = head(out, at, i, r.refusal);
+            ended(out, a, said)
+        }
+        Cursor::Stop(_, _) => at,
+    }
 }
 
 fn nibble(n: u8) -> u8 {
@@ -60,12 +344,12 @@ fn nibble(n: u8) -> u8 {
 }
 
 // A byte in two hexadecimal digits.
-pub fn hex(out: &mut [u8], at: usize, b: u8) -> usize {
+fn hex(out: &mut [u8], at: usize, b: u8) -> usize {
     let a = byte(out, at, nibble(b / 16));
     byte(out, a, nibble(b % 16))
 }
 
-pub fn all_hex(out: &mut [u8], at: usize, w: &[u8]) -> usize {
+pub(crate) fn all_hex(out: &mut [u8], at: usize, w: &[u8]) -> usize {
     let mut to = at;
     let mut i = 0;
     while i < w.len() {
@@ -73,63 +357,4 @@ pub fn all_hex(out: &mut [u8], at: usize, w: &[u8]) -> usize {
         i += 1;
     }
     to
-}
-
-// How a line begins: the call's number and its refusal.
-pub fn head(out: &mut [u8], at: usize, i: u64, refusal: u8) -> usize {
-    let a = digits(out, at, i);
-    number(out, a, refusal as u64)
-}
-
-pub fn end(out: &mut [u8], at: usize) -> usize {
-    byte(out, at, b'\n')
-}
-
-// A whole line: a refused call, by its number.
-pub fn refused(out: &mut [u8], at: usize, i: u64, why: Refusal) -> usize {
-    let a = head(out, at, i, panel::number(why));
-    end(out, a)
-}
-
-// A whole line: a word, behind a space.
-pub fn told(out: &mut [u8], at: usize, i: u64, w: &[u8]) -> usize {
-    let a = head(out, at, i, 0);
-    let b = byte(out, a, b' ');
-    let c = word(out, b, w);
-    end(out, c)
-}
-
-// A whole line: one number.
-pub fn counted(out: &mut [u8], at: usize, i: u64, n: u64) -> usize {
-    let a = head(out, at, i, 0);
-    let b = number(out, a, n);
-    end(out, b)
-}
-
-pub fn point(out: &mut [u8], at: usize, p: Point) -> usize {
-    let a = number(out, at, p.x as u64);
-    number(out, a, p.y as u64)
-}
-
-// A whole line: one point.
-pub fn placed(out: &mut [u8], at: usize, i: u64, p: Point) -> usize {
-    let a = head(out, at, i, 0);
-    let b = point(out, a, p);
-    end(out, b)
-}
-
-// The last line of a run that was read to its end.
-pub fn ended(out: &mut [u8], at: usize, calls: u64) -> usize {
-    let a = word(out, at, b"end");
-    let b = number(out, a, calls);
-    end(out, b)
-}
-
-// The last line of a run that was not.
-pub fn stopped(out: &mut [u8], at: usize, why: Refusal, place: usize) -> usize {
-    let a = word(out, at, b"stopped");
-    let b = number(out, a, panel::number(why) as u64);
-    let c = word(out, b, b" at");
-    let d = number(out, c, place as u64);
-    end(out, d)
 }

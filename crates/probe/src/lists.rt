@@ -11,22 +11,23 @@ use trace::Cursor;
 // The taps that a call can use, and a place for those that it cannot: the other list may be the shorter one.
 const PLACES: usize = 65;
 
-pub struct Taps {
-    pub list: [Tap; PLACES],
-    pub n: usize,
-    pub to: Cursor,
+struct Taps {
+    list: [Tap; PLACES],
+    n: usize,
+    to: Cursor,
 }
 
-pub struct Targets {
+pub(crate) struct Targets {
     pub list: [Point; MAX_TAPS],
     pub n: usize,
     pub to: Cursor,
 }
 
 // Raw taps beside their targets, as many as the shorter list has.
-pub struct Beside {
+pub(crate) struct Beside {
     pub list: [Pair; MAX_TAPS],
     pub n: usize,
+    pub to: Cursor,
 }
 
 struct Spot {
@@ -72,7 +73,7 @@ fn target_slot(i: usize) -> usize
     if i < MAX_TAPS { i } else { MAX_TAPS - 1 }
 }
 
-pub fn taps_at(s: &[u8], c: Cursor) -> Taps {
+fn taps_at(s: &[u8], c: Cursor) -> Taps {
     let count = trace::next_number(s, c, args::MOST_8);
     let n = args::low8(count.v) as usize;
     let mut list = no_taps();
@@ -89,7 +90,7 @@ pub fn taps_at(s: &[u8], c: Cursor) -> Taps {
     Taps { list, n, to }
 }
 
-pub fn targets_at(s: &[u8], c: Cursor) -> Targets {
+pub(crate) fn targets_at(s: &[u8], c: Cursor) -> Targets {
     let count = trace::next_number(s, c, args::MOST_8);
     let n = args::low8(count.v) as usize;
     let mut list = no_targets();
@@ -106,9 +107,7 @@ pub fn targets_at(s: &[u8], c: Cursor) -> Targets {
     Targets { list, n, to }
 }
 
-pub fn side_by_side(a: Taps, b: Taps) -> Beside {
-    let raw = a.list;
-    let tgt = b.list;
+fn side_by_side(raw: [Tap; PLACES], tgt: [Tap; PLACES]) -> [Pair; MAX_TAPS] {
     let p = Tap { x: 0, y: 0 };
     let mut list = [Pair { raw: p, tgt: p }; MAX_TAPS];
     let mut i = 0;
@@ -118,8 +117,22 @@ pub fn side_by_side(a: Taps, b: Taps) -> Beside {
         list[i] = Pair { raw: q, tgt: t };
         i += 1;
     }
-    if a.n < b.n {
-        return Beside { list, n: a.n };
-    }
-    Beside { list, n: b.n }
+    list
+}
+
+fn shorter(a: usize, b: usize) -> usize {
+    if a < b { a } else { b }
+}
+
+// Two lists of taps, the raw ones first.
+pub(crate) fn beside_at(s: &[u8], c: Cursor) -> Beside {
+    let a = taps_at(s, c);
+    let ca = a.to;
+    let b = taps_at(s, ca);
+    let to = b.to;
+    let raw = a.list;
+    let tgt = b.list;
+    let list = side_by_side(raw, tgt);
+    let n = shorter(a.n, b.n);
+    Beside { list, n, to }
 }

@@ -34,7 +34,8 @@ fn with_room(out: &mut [u8], r: Run) -> Run {
         return r;
     }
     write(out, r.at);
-    runs::emptied(r)
+    let to = r.to;
+    runs::read_on(r, to, 0)
 }
 
 // Whether there is a call to read.
@@ -49,13 +50,6 @@ fn place_of(to: Cursor) -> usize {
     match to {
         Cursor::At(place) => place,
         Cursor::Stop(_, _) => 0,
-    }
-}
-
-fn last_line(out: &mut [u8], at: usize, calls: u64, to: Cursor) -> usize {
-    match to {
-        Cursor::At(_) => lines::ended(out, at, calls),
-        Cursor::Stop(why, place) => lines::stopped(out, at, why, place),
     }
 }
 
@@ -74,9 +68,9 @@ fn turn(s: &[u8], out: &mut [u8], made: usize, r: Run) -> Run {
     with_room(out, n)
 }
 
-fn finish(out: &mut [u8], made: usize, r: Run) {
-    let to = r.to;
-    let a = last_line(out, r.at, made as u64, to);
+// The last line, written out with what is in the buffer.
+fn finish(out: &mut [u8], at: usize, made: usize, to: Cursor) {
+    let a = lines::ended(out, at, lines::last(made as u64, to));
     write(out, a);
 }
 
@@ -90,11 +84,12 @@ fn play(s: &[u8], out: &mut [u8]) {
             r = turn(s, out, made, r);
             made += 1;
         } else {
-            finish(out, made, r);
+            finish(out, r.at, made, to);
             return;
         }
     }
-    finish(out, made, r);
+    let to = r.to;
+    finish(out, r.at, made, to);
 }
 
 fn main() {
@@ -102,8 +97,7 @@ fn main() {
     let n = io::read_full(libc::STDIN_FILENO, &mut buf);
     let mut out = [0u8; ROOM];
     if INPUT_MOST < n {
-        let a = lines::stopped(&mut out, 0, Refusal::File, 0);
-        write(&out, a);
+        finish(&mut out, 0, 0, Cursor::Stop(Refusal::File, 0));
         return;
     }
     play(&buf[..n], &mut out);

@@ -1,8 +1,11 @@
 // The calls of the tracker, kinds 30 to 38, each with the tracker line: the gesture, the log line and the
 // tracker's image after the call.
+use crate::areas;
 use crate::args;
 use crate::args::NUMBERS;
 use crate::lines;
+use crate::lines::PIECES;
+use crate::lines::Piece;
 use gesture::Answer;
 use gesture::Gesture;
 use gesture::Given;
@@ -11,192 +14,230 @@ use gesture::Log;
 use gesture::Tracker;
 use image::DecodeAnswer;
 use panel::Axis;
-use panel::Event;
 use panel::Point;
+use trace::Cursor;
 
-// A line was printed up to `at`, and this is the tracker now.
-pub struct Tracked {
-    pub at: usize,
-    pub tracker: Tracker,
+// What a call is answered with, and where it ends.
+pub(crate) struct Tracked {
+    pub answer: Answer,
+    pub to: Cursor,
 }
 
-fn axis(out: &mut [u8], at: usize, a: Axis) -> usize {
+fn axis(a: Axis) -> u64 {
     match a {
-        Axis::H => lines::word(out, at, b" H"),
-        Axis::V => lines::word(out, at, b" V"),
+        Axis::H => lines::H,
+        Axis::V => lines::V,
     }
 }
 
-fn pointed(out: &mut [u8], at: usize, name: &[u8], p: Point) -> usize {
-    let a = lines::word(out, at, name);
-    lines::point(out, a, p)
+fn alone(word: u64) -> [Piece; PIECES] {
+    lines::one(lines::named(word))
 }
 
-fn numbered(out: &mut [u8], at: usize, name: &[u8], n: u8) -> usize {
-    let a = lines::word(out, at, name);
-    lines::number(out, a, n as u64)
+fn pointed(word: u64, p: Point) -> [Piece; PIECES] {
+    lines::three(
+        lines::named(word),
+        lines::number(p.x as u64),
+        lines::number(p.y as u64),
+    )
 }
 
-fn dragged(out: &mut [u8], at: usize, p: Point, q: Point, x: Axis) -> usize {
-    let a = pointed(out, at, b" Drag", p);
-    let b = lines::point(out, a, q);
-    axis(out, b, x)
+fn numbered(word: u64, n: u8) -> [Piece; PIECES] {
+    lines::three(
+        lines::named(word),
+        lines::number(n as u64),
+        lines::nothing(),
+    )
 }
 
-fn moved(out: &mut [u8], at: usize, p: Point, q: Point) -> usize {
-    let a = pointed(out, at, b" Move", p);
-    lines::point(out, a, q)
+// Two points, and a piece behind them.
+fn between(word: u64, p: Point, q: Point, z: Piece) -> [Piece; PIECES] {
+    lines::row(
+        lines::named(word),
+        lines::number(p.x as u64),
+        lines::number(p.y as u64),
+        lines::number(q.x as u64),
+        lines::number(q.y as u64),
+        z,
+        lines::nothing(),
+    )
 }
 
-fn pinched(out: &mut [u8], at: usize, x: Axis, span0: u16, span: u16) -> usize {
-    let a = lines::word(out, at, b" Pinch");
-    let b = axis(out, a, x);
-    let c = lines::number(out, b, span0 as u64);
-    lines::number(out, c, span as u64)
+fn dragged(p: Point, q: Point, x: Axis) -> [Piece; PIECES] {
+    between(lines::DRAG, p, q, lines::named(axis(x)))
 }
 
-fn ended(out: &mut [u8], at: usize, released: bool) -> usize {
-    if released {
-        return numbered(out, at, b" PinchEnd", 1);
-    }
-    numbered(out, at, b" PinchEnd", 0)
+fn moved(p: Point, q: Point) -> [Piece; PIECES] {
+    between(lines::MOVE, p, q, lines::nothing())
+}
+
+fn pinched(x: Axis, span0: u16, span: u16) -> [Piece; PIECES] {
+    let z = lines::nothing();
+    lines::row(
+        lines::named(lines::PINCH),
+        lines::named(axis(x)),
+        lines::number(span0 as u64),
+        lines::number(span as u64),
+        z,
+        z,
+        z,
+    )
+}
+
+fn ended(released: bool) -> [Piece; PIECES] {
+    numbered(lines::PINCH_END, if released { 1 } else { 0 })
 }
 
 // As the trace program prints it.
-fn gesture(out: &mut [u8], at: usize, g: Gesture) -> usize {
+fn gesture(g: Gesture) -> [Piece; PIECES] {
     match g {
-        Gesture::Down(p) => pointed(out, at, b" Down", p),
-        Gesture::Tap(p) => pointed(out, at, b" Tap", p),
-        Gesture::LongPress(p) => pointed(out, at, b" LongPress", p),
-        Gesture::Drag(p, q, a) => dragged(out, at, p, q, a),
-        Gesture::Grab(p) => pointed(out, at, b" Grab", p),
-        Gesture::Up(p) => pointed(out, at, b" Up", p),
-        Gesture::SwipeLeft => lines::word(out, at, b" SwipeLeft"),
-        Gesture::SwipeRight => lines::word(out, at, b" SwipeRight"),
-        Gesture::SwipeUp => lines::word(out, at, b" SwipeUp"),
-        Gesture::SwipeDown => lines::word(out, at, b" SwipeDown"),
-        Gesture::Cancel => lines::word(out, at, b" Cancel"),
-        Gesture::MultiSwipeDown(n) => numbered(out, at, b" MultiSwipeDown", n),
-        Gesture::KeyDown(k) => numbered(out, at, b" KeyDown", k),
-        Gesture::KeyUp(k) => numbered(out, at, b" KeyUp", k),
-        Gesture::Move(p, q) => moved(out, at, p, q),
-        Gesture::Pinch(a, s, t) => pinched(out, at, a, s, t),
-        Gesture::PinchEnd(released) => ended(out, at, released),
+        Gesture::Down(p) => pointed(lines::DOWN, p),
+        Gesture::Tap(p) => pointed(lines::TAP, p),
+        Gesture::LongPress(p) => pointed(lines::LONG_PRESS, p),
+        Gesture::Drag(p, q, a) => dragged(p, q, a),
+        Gesture::Grab(p) => pointed(lines::GRAB, p),
+        Gesture::Up(p) => pointed(lines::UP, p),
+        Gesture::SwipeLeft => alone(lines::SWIPE_LEFT),
+        Gesture::SwipeRight => alone(lines::SWIPE_RIGHT),
+        Gesture::SwipeUp => alone(lines::SWIPE_UP),
+        Gesture::SwipeDown => alone(lines::SWIPE_DOWN),
+        Gesture::Cancel => alone(lines::CANCEL),
+        Gesture::MultiSwipeDown(n) => numbered(lines::MULTI_SWIPE_DOWN, n),
+        Gesture::KeyDown(k) => numbered(lines::KEY_DOWN, k),
+        Gesture::KeyUp(k) => numbered(lines::KEY_UP, k),
+        Gesture::Move(p, q) => moved(p, q),
+        Gesture::Pinch(a, s, t) => pinched(a, s, t),
+        Gesture::PinchEnd(released) => ended(released),
     }
 }
 
-fn given(out: &mut [u8], at: usize, g: Given) -> usize {
+fn given(g: Given) -> [Piece; PIECES] {
     match g {
-        Given::Nothing => lines::word(out, at, b" -"),
-        Given::Gave(g) => gesture(out, at, g),
+        Given::Nothing => alone(lines::DASH),
+        Given::Gave(g) => gesture(g),
     }
 }
 
-fn line(out: &mut [u8], at: usize, l: Line) -> usize {
+// The log line between its bars.
+fn logged(l: Line) -> [Piece; PIECES] {
     let p = l.p;
-    let a = lines::byte(out, at, b' ');
-    let b = lines::byte(out, a, l.letter);
-    let c = lines::number(out, b, l.argument as u64);
-    let d = lines::point(out, c, p);
-    lines::number(out, d, l.time)
+    let bar = lines::named(lines::BAR);
+    lines::row(
+        bar,
+        lines::letter(l.letter),
+        lines::number(l.argument as u64),
+        lines::number(p.x as u64),
+        lines::number(p.y as u64),
+        lines::number(l.time),
+        bar,
+    )
 }
 
-fn log(out: &mut [u8], at: usize, l: Log) -> usize {
+fn log(l: Log) -> [Piece; PIECES] {
     match l {
-        Log::Silent => lines::word(out, at, b" -"),
-        Log::Logged(l) => line(out, at, l),
+        Log::Silent => {
+            let bar = lines::named(lines::BAR);
+            lines::three(bar, lines::named(lines::DASH), bar)
+        }
+        Log::Logged(l) => logged(l),
     }
+}
+
+// An answer without gesture and log line.
+fn quiet(refusal: u8, t: Tracker) -> Answer {
+    Answer {
+        refusal,
+        gesture: Given::Nothing,
+        log: Log::Silent,
+        tracker: t,
+    }
+}
+
+fn made(kind: u64, v: [u64; NUMBERS], t: Tracker) -> Answer {
+    match kind {
+        31 => gesture::event(t, args::report(v), v[0]),
+        32 => gesture::tick(t, v[0]),
+        33 => gesture::capture(t),
+        34 => gesture::capture_direct(t),
+        35 => gesture::raw_next(t, v[0] != 0),
+        36 => gesture::set_grab_ms(t, args::low16(v[0])),
+        37 => grabbed(t),
+        _ => quiet(0, gesture::fresh()),
+    }
+}
+
+fn grabbed(t: Tracker) -> Answer {
+    let r = gesture::grab_ms(t);
+    r.answer
+}
+
+fn grab_ms(t: Tracker) -> [Piece; PIECES] {
+    let r = gesture::grab_ms(t);
+    lines::one(lines::number(r.ms as u64))
+}
+
+// Bytes taken as the tracker's image.
+fn loaded(d: DecodeAnswer, t: Tracker) -> Answer {
+    match d {
+        DecodeAnswer::Answered(n) => quiet(0, n),
+        DecodeAnswer::Refused(why) => quiet(panel::number(why), t),
+    }
+}
+
+fn load(s: &[u8], v: [u64; NUMBERS], c: Cursor, t: Tracker) -> Tracked {
+    let a = areas::area_at(s, c, args::low16(v[0]) as usize);
+    let d = a.decoded;
+    let to = a.to;
+    let answer = loaded(d, t);
+    Tracked { answer, to }
+}
+
+pub(crate) fn call(s: &[u8], kind: u64, v: [u64; NUMBERS], c: Cursor, t: Tracker) -> Tracked {
+    if kind == 38 {
+        return load(s, v, c, t);
+    }
+    let answer = made(kind, v, t);
+    Tracked { answer, to: c }
+}
+
+// The gesture; of grab_ms the number stands in its place.
+fn said(kind: u64, g: Given, t: Tracker) -> [Piece; PIECES] {
+    if kind == 37 {
+        return grab_ms(t);
+    }
+    given(g)
 }
 
 // The tracker's image, which ends the line.
 fn image(out: &mut [u8], at: usize, t: Tracker) -> usize {
-    let b = image::image_of(t);
-    let a = lines::all_hex(out, at, &b);
-    lines::end(out, a)
+    let area = image::image_of(t);
+    let a = lines::byte(out, at, b' ');
+    let b = lines::all_hex(out, a, &area);
+    lines::byte(out, b, b'\n')
 }
 
-fn behind(out: &mut [u8], at: usize, l: Log, t: Tracker) -> usize {
-    let a = lines::word(out, at, b" |");
-    let b = log(out, a, l);
-    let c = lines::word(out, b, b" | ");
-    image(out, c, t)
+fn whole(
+    out: &mut [u8],
+    at: usize,
+    said: [Piece; PIECES],
+    l: [Piece; PIECES],
+    t: Tracker,
+) -> usize {
+    let a = lines::pieces(out, at, said);
+    let b = lines::pieces(out, a, l);
+    image(out, b, t)
 }
 
-fn answered(out: &mut [u8], at: usize, i: u64, r: Answer) -> Tracked {
-    let g = r.gesture;
-    let l = r.log;
-    let t = r.tracker;
-    let a = lines::head(out, at, i, r.refusal);
-    let b = given(out, a, g);
-    let c = behind(out, b, l, t);
-    Tracked { at: c, tracker: t }
-}
-
-// A line without gesture and log line.
-fn quiet(out: &mut [u8], at: usize, i: u64, refusal: u8, t: Tracker) -> Tracked {
-    let a = lines::head(out, at, i, refusal);
-    let b = lines::word(out, a, b" -");
-    let c = behind(out, b, Log::Silent, t);
-    Tracked { at: c, tracker: t }
-}
-
-pub fn fresh(out: &mut [u8], at: usize, i: u64) -> Tracked {
-    quiet(out, at, i, 0, gesture::fresh())
-}
-
-pub fn event(out: &mut [u8], at: usize, i: u64, v: [u64; NUMBERS], t: Tracker) -> Tracked {
-    let ev = Event {
-        points: args::low8(v[2]),
-        p: args::point(v[3], v[4]),
-        pts: args::points(v, 5),
-        keys: args::low8(v[1]),
-    };
-    let r = gesture::event(t, ev, v[0]);
-    answered(out, at, i, r)
-}
-
-pub fn tick(out: &mut [u8], at: usize, i: u64, v: [u64; NUMBERS], t: Tracker) -> Tracked {
-    let r = gesture::tick(t, v[0]);
-    answered(out, at, i, r)
-}
-
-pub fn capture(out: &mut [u8], at: usize, i: u64, t: Tracker) -> Tracked {
-    let r = gesture::capture(t);
-    answered(out, at, i, r)
-}
-
-pub fn capture_direct(out: &mut [u8], at: usize, i: u64, t: Tracker) -> Tracked {
-    let r = gesture::capture_direct(t);
-    answered(out, at, i, r)
-}
-
-pub fn raw_next(out: &mut [u8], at: usize, i: u64, v: [u64; NUMBERS], t: Tracker) -> Tracked {
-    let r = gesture::raw_next(t, v[0] != 0);
-    answered(out, at, i, r)
-}
-
-pub fn set_grab_ms(out: &mut [u8], at: usize, i: u64, v: [u64; NUMBERS], t: Tracker) -> Tracked {
-    let r = gesture::set_grab_ms(t, args::low16(v[0]));
-    answered(out, at, i, r)
-}
-
-// The number stands in the gesture's place.
-pub fn grab_ms(out: &mut [u8], at: usize, i: u64, t: Tracker) -> Tracked {
-    let r = gesture::grab_ms(t);
-    let ms = r.ms;
-    let q = r.answer;
-    let l = q.log;
-    let n = q.tracker;
-    let a = lines::head(out, at, i, q.refusal);
-    let b = lines::number(out, a, ms as u64);
-    let c = behind(out, b, l, n);
-    Tracked { at: c, tracker: n }
-}
-
-// Bytes taken as the tracker's image.
-pub fn load(out: &mut [u8], at: usize, i: u64, d: DecodeAnswer, t: Tracker) -> Tracked {
-    match d {
-        DecodeAnswer::Answered(n) => quiet(out, at, i, 0, n),
-        DecodeAnswer::Refused(why) => quiet(out, at, i, panel::number(why), t),
+// The tracker line, if the call was read to its end.
+pub(crate) fn line(out: &mut [u8], at: usize, i: u64, kind: u64, to: Cursor, a: Answer) -> usize {
+    let g = a.gesture;
+    let l = a.log;
+    let t = a.tracker;
+    match to {
+        Cursor::At(_) => {
+            let b = lines::head(out, at, i, a.refusal);
+            whole(out, b, said(kind, g, t), log(l), t)
+        }
+        Cursor::Stop(_, _) => at,
     }
 }

@@ -13,20 +13,11 @@ wide-requires c κs = search needs
 number-requires : tie.Need-number-requires
 number-requires c κs = search needs
 
-same-length : tie.Need-same-length
-same-length c = search needs
-
 returns : tie.Need-returns
 returns c = search needs
 
-slice-aggregate-word : tie.Need-slice-aggregate-word
-slice-aggregate-word c = search needs
-
-word-requires : tie.Need-word-requires
-word-requires c κs = search needs
-
-same-length-2 : tie.Need-same-length-2
-same-length-2 c = search needs
+named-requires : tie.Need-named-requires
+named-requires c κs = search needs
 
 returns-2 : tie.Need-returns-2
 returns-2 c = search needs
@@ -34,13 +25,4 @@ returns-2 c = search needs
 pub pattern-spec : {M : Type 1} → statement M
 pattern-spec =
     tie.close
-    (tie.spec
-    float-to-bits-wide
-    wide-requires
-    number-requires
-    same-length
-    returns
-    slice-aggregate-word
-    word-requires
-    same-length-2
-    returns-2)
+    (tie.spec float-to-bits-wide wide-requires number-requires returns named-requires returns-2)

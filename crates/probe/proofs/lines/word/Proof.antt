@@ -7,19 +7,22 @@ use Rattle.probe.proofs.lines.word.Statement.{statement}
 use Rattle.probe.proofs.lines.word.Tie as tie
 
 abbrev Inv-loop : tie.InvT-loop
-Inv-loop out₀ at w to₀ i₀ out to i = (i ≤ length w) × (length out ≡ length out₀)
+Inv-loop out₀ at word w to₀ k₀ i₀ out to k i = (i ≤ 174) × (length out ≡ length out₀)
 
 abbrev μ-loop : tie.MeasureT-loop
-μ-loop out₀ at w to₀ i₀ out to i = length w - i
+μ-loop out₀ at word w to₀ k₀ i₀ out to k i = 174 - i
 
 loop-holds : tie.Need-loop-holds Inv-loop μ-loop
 loop-holds c = search needs
 
-shared-slice-read-byte : tie.Need-shared-slice-read-byte Inv-loop μ-loop
-shared-slice-read-byte c = search needs
+element-copy-out-b : tie.Need-element-copy-out-b Inv-loop μ-loop
+element-copy-out-b c = search needs
 
-byte-requires : tie.Need-byte-requires Inv-loop μ-loop
-byte-requires c κs = search needs
+of-word-requires : tie.Need-of-word-requires Inv-loop μ-loop
+of-word-requires c κs = search needs
+
+next-word-requires : tie.Need-next-word-requires Inv-loop μ-loop
+next-word-requires c κs = search needs
 
 add-i : tie.Need-add-i Inv-loop μ-loop
 add-i c = search needs
@@ -43,8 +46,9 @@ word-spec =
     Inv-loop
     μ-loop
     loop-holds
-    shared-slice-read-byte
-    byte-requires
+    element-copy-out-b
+    of-word-requires
+    next-word-requires
     add-i
     loop-less
     loop-again

@@ -7,10 +7,10 @@ use Rattle.probe.proofs.lists.side_by_side.Statement.{statement}
 use Rattle.probe.proofs.lists.side_by_side.Tie as tie
 
 abbrev Inv-loop : tie.InvT-loop
-Inv-loop a b raw tgt list₀ i₀ list i = (i ≤ 64) × (length list ≡ 64)
+Inv-loop raw tgt list₀ i₀ list i = (i ≤ 64) × (length list ≡ 64)
 
 abbrev μ-loop : tie.MeasureT-loop
-μ-loop a b raw tgt list₀ i₀ list i = 64 - i
+μ-loop raw tgt list₀ i₀ list i = 64 - i
 
 loop-holds : tie.Need-loop-holds Inv-loop μ-loop
 loop-holds c = search needs
@@ -45,9 +45,6 @@ loop-again c = search needs
 returns : tie.Need-returns Inv-loop μ-loop
 returns c = search needs
 
-returns-2 : tie.Need-returns-2 Inv-loop μ-loop
-returns-2 c = search needs
-
 pub side-by-side-spec : {M : Type 1} → statement M
 side-by-side-spec =
     tie.close
@@ -64,5 +61,4 @@ side-by-side-spec =
     add-i
     loop-less
     loop-again
-    returns
-    returns-2)
+    returns)

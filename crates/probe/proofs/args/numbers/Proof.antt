@@ -1,19 +1,28 @@
--- `probe::args::and_more` is safe and ends. Assumes nothing.
+-- `probe::args::numbers` is safe and ends. Assumes nothing.
 use Prim.Native.Nat.{_-_}
 use mathlib.Core.Path.{_≡_}
 use borrow.Author.Needs.{needs}
 use lib.ListN.{length}
-use Rattle.probe.proofs.args.and_more.Statement.{statement}
-use Rattle.probe.proofs.args.and_more.Tie as tie
+use Rattle.probe.proofs.args.numbers.Statement.{statement}
+use Rattle.probe.proofs.args.numbers.Tie as tie
 
 abbrev Inv-loop : tie.InvT-loop
-Inv-loop s from until most v₀ to₀ i₀ v to i = length v ≡ 16
+Inv-loop s kind end v₀ to₀ i₀ v to i = length v ≡ 16
 
 abbrev μ-loop : tie.MeasureT-loop
-μ-loop s from until most v₀ to₀ i₀ v to i = until - i
+μ-loop s kind end v₀ to₀ i₀ v to i = end - i
+
+until-requires : tie.Need-until-requires Inv-loop μ-loop
+until-requires c κs = search needs
+
+first-requires : tie.Need-first-requires Inv-loop μ-loop
+first-requires c κs = search needs
 
 loop-holds : tie.Need-loop-holds Inv-loop μ-loop
 loop-holds c = search needs
+
+most-requires : tie.Need-most-requires Inv-loop μ-loop
+most-requires c κs = search needs
 
 next-number-requires : tie.Need-next-number-requires Inv-loop μ-loop
 next-number-requires c κs = search needs
@@ -39,13 +48,16 @@ loop-again c = search needs
 returns : tie.Need-returns Inv-loop μ-loop
 returns c = search needs
 
-pub and-more-spec : {M : Type 1} → statement M
-and-more-spec =
+pub numbers-spec : {M : Type 1} → statement M
+numbers-spec =
     tie.close
     (tie.spec
     Inv-loop
     μ-loop
+    until-requires
+    first-requires
     loop-holds
+    most-requires
     next-number-requires
     slot-requires
     mul-v
