@@ -11,6 +11,7 @@ use calmap::Tap;
 use calmap::Tenths;
 use calmap::Verdict;
 use panel::Point;
+use touchcal::Fit;
 use touchcal::FitAnswer;
 
 // A calibration that moves x alone.
@@ -28,10 +29,10 @@ fn moves_x(c2: i32) -> Cal {
 
 fn verdict(v: Verdict) {
     match v {
-        Verdict::Pass => print::word(b" Pass"),
-        Verdict::Scale => print::word(b" Scale"),
-        Verdict::Shift => print::word(b" Shift"),
-        Verdict::Resid => print::word(b" Resid"),
+        Verdict::Pass => print::name(print::PASS),
+        Verdict::Scale => print::name(print::SCALE),
+        Verdict::Shift => print::name(print::SHIFT),
+        Verdict::Resid => print::name(print::RESID),
     }
 }
 
@@ -47,7 +48,7 @@ fn check(c2: i32) {
     print::end();
 }
 
-pub fn checks() {
+pub(crate) fn checks() {
     check(2625535);
     check(2625536);
     check(-2621440);
@@ -71,7 +72,7 @@ fn dist10(root: i32) {
     print::end();
 }
 
-pub fn roots() {
+pub(crate) fn roots() {
     dist10(401);
     dist10(402);
 }
@@ -84,38 +85,48 @@ fn corner(x: i16, y: i16, moved: i16) -> Pair {
     }
 }
 
-// The corners from (0, 0) to (100, 100) onto themselves, moved along x to left and right, held against
-// one target.
-fn corners(by: u64, left: i16, right: i16) {
-    print::word(b"fit, corners moved by");
-    print::number(by);
-    print::gives();
+// The corners from (0, 0) to (100, 100) onto themselves, moved along x to left and right.
+fn corners(left: i16, right: i16) -> [Pair; 64] {
     let mut pairs = [corner(0, 0, 0); 64];
     pairs[0] = corner(0, 0, left);
     pairs[1] = corner(100, 0, right);
     pairs[2] = corner(0, 100, left);
     pairs[3] = corner(100, 100, right);
+    pairs
+}
+
+fn steps(c: Cal) {
+    print::signed(c.c0.0);
+    print::signed(c.c1.0);
+    print::signed(c.c2.0);
+    print::signed(c.c3.0);
+    print::signed(c.c4.0);
+    print::signed(c.c5.0);
+}
+
+fn fitted(f: Fit) {
+    steps(f.cal);
+    tenths(f.mean);
+    tenths(f.max);
+    tenths(f.before);
+    let v = f.verdict;
+    verdict(v);
+}
+
+// The fit of these corners, held against one target.
+fn fit(by: u64, pairs: [Pair; 64]) {
+    print::word(b"fit, corners moved by");
+    print::number(by);
+    print::gives();
     let targets = [Point { x: 240, y: 160 }; 64];
     match touchcal::fit_of(pairs, 4, targets, 1) {
-        FitAnswer::Answered(f) => {
-            print::signed(f.cal.c0.0);
-            print::signed(f.cal.c1.0);
-            print::signed(f.cal.c2.0);
-            print::signed(f.cal.c3.0);
-            print::signed(f.cal.c4.0);
-            print::signed(f.cal.c5.0);
-            tenths(f.mean);
-            tenths(f.max);
-            tenths(f.before);
-            let v = f.verdict;
-            verdict(v)
-        }
+        FitAnswer::Answered(f) => fitted(f),
         FitAnswer::Refused(r) => print::refusal(r),
     }
     print::end();
 }
 
-pub fn fits() {
-    corners(41, 41, 141);
-    corners(40, 40, 140);
+pub(crate) fn fits() {
+    fit(41, corners(41, 141));
+    fit(40, corners(40, 140));
 }

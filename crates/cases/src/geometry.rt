@@ -1,7 +1,6 @@
 // Panel geometry: the edges of the panel, the larger of two differences, means rounded down, and both
 // sides of each line that document 01 draws for the axis.
 use crate::print;
-use panel::Axis;
 use panel::AxisLock;
 use panel::CentroidAnswer;
 use panel::DistAnswer;
@@ -35,7 +34,7 @@ fn dist2(p: Point, q: Point) {
     measured(panel::dist2(p, q));
 }
 
-pub fn distances() {
+pub(crate) fn distances() {
     dist(at(100, 50), at(116, 50));
     dist(at(100, 50), at(92, 70));
     dist(at(0, 0), at(479, 319));
@@ -65,7 +64,7 @@ fn centroid(count: u8, pts: [Point; 5]) {
     print::end();
 }
 
-pub fn centroids() {
+pub(crate) fn centroids() {
     let pts = [at(10, 20), at(13, 21), at(479, 319), at(0, 0), at(1, 319)];
     let odd = [at(10, 20), at(13, 21), at(480, 0), at(0, 65535), at(1, 1)];
     centroid(0, pts);
@@ -81,11 +80,8 @@ pub fn centroids() {
 
 fn locked(lock: AxisLock) {
     match lock {
-        AxisLock::Free => print::word(b" -"),
-        AxisLock::On(axis) => match axis {
-            Axis::H => print::word(b" H"),
-            Axis::V => print::word(b" V"),
-        },
+        AxisLock::Free => print::name(print::NONE),
+        AxisLock::On(axis) => print::axis(axis),
     }
 }
 
@@ -101,7 +97,7 @@ fn lock_axis(dx: i32, dy: i32) {
     print::end();
 }
 
-pub fn axes() {
+pub(crate) fn axes() {
     lock_axis(16, 16);
     lock_axis(30, -30);
     lock_axis(31, 31);

@@ -1,21 +1,71 @@
 // The pieces of a printed line.
+use panel::Axis;
 use panel::Point;
 use panel::Refusal;
 
-pub fn word(text: &[u8]) {
+// The places of the names, see `name`.
+pub(crate) const NONE: u8 = 0;
+
+const H: u8 = 1;
+
+const V: u8 = 2;
+
+pub(crate) const PASS: u8 = 3;
+
+pub(crate) const SCALE: u8 = 4;
+
+pub(crate) const SHIFT: u8 = 5;
+
+pub(crate) const RESID: u8 = 6;
+
+pub(crate) const DOWN: u8 = 7;
+
+pub(crate) const TAP: u8 = 8;
+
+pub(crate) const LONG_PRESS: u8 = 9;
+
+pub(crate) const DRAG: u8 = 10;
+
+pub(crate) const GRAB: u8 = 11;
+
+pub(crate) const UP: u8 = 12;
+
+pub(crate) const SWIPE_LEFT: u8 = 13;
+
+pub(crate) const SWIPE_RIGHT: u8 = 14;
+
+pub(crate) const SWIPE_UP: u8 = 15;
+
+pub(crate) const SWIPE_DOWN: u8 = 16;
+
+pub(crate) const CANCEL: u8 = 17;
+
+pub(crate) const MULTI_SWIPE_DOWN: u8 = 18;
+
+pub(crate) const KEY_DOWN: u8 = 19;
+
+pub(crate) const KEY_UP: u8 = 20;
+
+pub(crate) const MOVE: u8 = 21;
+
+pub(crate) const PINCH: u8 = 22;
+
+pub(crate) const PINCH_END: u8 = 23;
+
+pub(crate) fn word(text: &[u8]) {
     io::write_all(libc::STDOUT_FILENO, text);
 }
 
-pub fn number(n: u64) {
+pub(crate) fn number(n: u64) {
     word(b" ");
     io::print_decimal(libc::STDOUT_FILENO, n);
 }
 
-pub fn byte(b: u8) {
+pub(crate) fn byte(b: u8) {
     number(b as u64);
 }
 
-pub fn signed(v: i32) {
+pub(crate) fn signed(v: i32) {
     word(b" ");
     if v < 0 {
         word(b"-");
@@ -23,21 +73,65 @@ pub fn signed(v: i32) {
     io::print_decimal(libc::STDOUT_FILENO, panel::magnitude(v) as u64);
 }
 
-pub fn point(p: Point) {
+pub(crate) fn point(p: Point) {
     number(p.x as u64);
     number(p.y as u64);
 }
 
 // A refusal, by its number.
-pub fn refusal(r: Refusal) {
-    word(b" refused");
-    number(panel::number(r) as u64);
+pub(crate) fn refusal(r: Refusal) {
+    refused(panel::number(r));
 }
 
-pub fn gives() {
+pub(crate) fn refused(refusal: u8) {
+    word(b" refused");
+    byte(refusal);
+}
+
+pub(crate) fn gives() {
     word(b" ->");
 }
 
-pub fn end() {
+pub(crate) fn end() {
     word(b"\n");
+}
+
+// A letter of the names, if it is of that name.
+fn of_name(b: u8, k: u8, name: u8) {
+    if k == name {
+        word(&[b]);
+    }
+}
+
+// The place of the name of that letter, from that of the letter before it.
+fn place(b: u8, k: u8) -> u8 {
+    if b == b' ' {
+        if k < 255 {
+            return k + 1;
+        }
+        return 0;
+    }
+    k
+}
+
+// Prints the name at that place, behind a space. The names stand in one list: a branch for each of them with its own
+// bytes is dear to prove.
+pub(crate) fn name(name: u8) {
+    let all =
+        b" - H V Pass Scale Shift Resid Down Tap LongPress Drag Grab Up SwipeLeft SwipeRight SwipeUp SwipeDown Cancel MultiSwipeDown KeyDown KeyUp Move Pinch PinchEnd";
+    let mut k = 255;
+    let mut i = 0;
+    while i < all.len() {
+        let b = all[i];
+        k = place(b, k);
+        of_name(b, k, name);
+        i += 1;
+    }
+}
+
+pub(crate) fn axis(a: Axis) {
+    match a {
+        Axis::H => name(H),
+        Axis::V => name(V),
+    }
 }

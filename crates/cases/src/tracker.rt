@@ -13,86 +13,93 @@ fn at(x: u16, y: u16) -> Point {
     Point { x, y }
 }
 
-fn axis(a: Axis) {
-    match a {
-        Axis::H => print::word(b" H"),
-        Axis::V => print::word(b" V"),
-    }
-}
-
-fn pointed(name: &[u8], p: Point) {
-    print::word(name);
+fn pointed(name: u8, p: Point) {
+    print::name(name);
     print::point(p);
 }
 
-fn numbered(name: &[u8], n: u64) {
-    print::word(name);
-    print::number(n);
+fn numbered(name: u8, n: u8) {
+    print::name(name);
+    print::number(n as u64);
 }
 
 fn dragged(p: Point, q: Point, a: Axis) {
-    pointed(b" Drag", p);
+    pointed(print::DRAG, p);
     print::point(q);
-    axis(a);
+    print::axis(a);
 }
 
 fn moved(p: Point, q: Point) {
-    pointed(b" Move", p);
+    pointed(print::MOVE, p);
     print::point(q);
 }
 
 fn pinched(a: Axis, span0: u16, span: u16) {
-    print::word(b" Pinch");
-    axis(a);
+    print::name(print::PINCH);
+    print::axis(a);
     print::number(span0 as u64);
     print::number(span as u64);
 }
 
+fn ended(done: bool) {
+    numbered(print::PINCH_END, if done { 1 } else { 0 });
+}
+
 fn gesture(g: Gesture) {
     match g {
-        Gesture::Down(p) => pointed(b" Down", p),
-        Gesture::Tap(p) => pointed(b" Tap", p),
-        Gesture::LongPress(p) => pointed(b" LongPress", p),
+        Gesture::Down(p) => pointed(print::DOWN, p),
+        Gesture::Tap(p) => pointed(print::TAP, p),
+        Gesture::LongPress(p) => pointed(print::LONG_PRESS, p),
         Gesture::Drag(p, q, a) => dragged(p, q, a),
-        Gesture::Grab(p) => pointed(b" Grab", p),
-        Gesture::Up(p) => pointed(b" Up", p),
-        Gesture::SwipeLeft => print::word(b" SwipeLeft"),
-        Gesture::SwipeRight => print::word(b" SwipeRight"),
-        Gesture::SwipeUp => print::word(b" SwipeUp"),
-        Gesture::SwipeDown => print::word(b" SwipeDown"),
-        Gesture::Cancel => print::word(b" Cancel"),
-        Gesture::MultiSwipeDown(n) => numbered(b" MultiSwipeDown", n as u64),
-        Gesture::KeyDown(k) => numbered(b" KeyDown", k as u64),
-        Gesture::KeyUp(k) => numbered(b" KeyUp", k as u64),
+        Gesture::Grab(p) => pointed(print::GRAB, p),
+        Gesture::Up(p) => pointed(print::UP, p),
+        Gesture::SwipeLeft => print::name(print::SWIPE_LEFT),
+        Gesture::SwipeRight => print::name(print::SWIPE_RIGHT),
+        Gesture::SwipeUp => print::name(print::SWIPE_UP),
+        Gesture::SwipeDown => print::name(print::SWIPE_DOWN),
+        Gesture::Cancel => print::name(print::CANCEL),
+        Gesture::MultiSwipeDown(n) => numbered(print::MULTI_SWIPE_DOWN, n),
+        Gesture::KeyDown(k) => numbered(print::KEY_DOWN, k),
+        Gesture::KeyUp(k) => numbered(print::KEY_UP, k),
         Gesture::Move(p, q) => moved(p, q),
         Gesture::Pinch(a, s, t) => pinched(a, s, t),
-        Gesture::PinchEnd(done) => numbered(b" PinchEnd", if done { 1 } else { 0 }),
+        Gesture::PinchEnd(done) => ended(done),
     }
 }
 
 fn given(g: Given) {
     match g {
-        Given::Nothing => print::word(b" -"),
+        Given::Nothing => print::name(print::NONE),
         Given::Gave(g) => gesture(g),
     }
 }
 
-// What a call gave; its tracker goes on.
-fn after(a: Answer) -> Tracker {
+// What a call gave.
+fn gave(refusal: u8, g: Given) {
     print::gives();
-    if a.refusal == 0 {
-        let g = a.gesture;
+    if refusal == 0 {
         given(g);
     } else {
-        numbered(b" refused", a.refusal as u64);
+        print::refused(refusal);
     }
     print::end();
+}
+
+// A call's tracker goes on.
+fn after(a: Answer) -> Tracker {
+    let g = a.gesture;
+    gave(a.refusal, g);
     let t = a.tracker;
     t
 }
 
+fn called(call: &[u8], now: u64) {
+    print::word(call);
+    print::number(now);
+}
+
 fn report(t: Tracker, now: u64, count: u8, keys: u8, p: Point, q: Point) -> Tracker {
-    numbered(b"report", now);
+    called(b"report", now);
     let o = at(0, 0);
     let ev = Event {
         points: count,
@@ -116,7 +123,7 @@ fn two(t: Tracker, now: u64, p: Point, q: Point) -> Tracker {
 }
 
 fn tick(t: Tracker, now: u64) -> Tracker {
-    numbered(b"tick", now);
+    called(b"tick", now);
     after(gesture::tick(t, now))
 }
 
@@ -136,78 +143,78 @@ fn title(text: &[u8]) {
 }
 
 // The calls of document 01's trace.
-pub fn trace() {
+pub(crate) fn trace() {
     title(b"the trace of document 01");
-    let t = one(gesture::fresh(), 0, 100, 50);
-    let t = one(t, 10, 115, 50);
-    let t = one(t, 20, 116, 50);
-    let t = two(t, 30, at(116, 50), at(176, 50));
-    let t = tick(t, 1000);
-    let t = none(t, 1010);
-    let t = one(t, 1309, 100, 50);
-    let t = none(t, 1310);
-    let t = one(t, 1310, 100, 50);
+    let mut t = one(gesture::fresh(), 0, 100, 50);
+    t = one(t, 10, 115, 50);
+    t = one(t, 20, 116, 50);
+    t = two(t, 30, at(116, 50), at(176, 50));
+    t = tick(t, 1000);
+    t = none(t, 1010);
+    t = one(t, 1309, 100, 50);
+    t = none(t, 1310);
+    t = one(t, 1310, 100, 50);
     none(t, 1400);
 }
 
 fn swipe(up: u64) {
-    let t = one(gesture::fresh(), 0, 100, 50);
-    let t = one(t, 10, 160, 50);
+    let mut t = one(gesture::fresh(), 0, 100, 50);
+    t = one(t, 10, 160, 50);
     none(t, up);
 }
 
 // "Swipe at 800 ms, none at 801."
-pub fn swipes() {
+pub(crate) fn swipes() {
     title(b"a swipe's time");
     swipe(800);
     swipe(801);
 }
 
 // "Straight-line distance for the slop": (12, 12) is 17 away on the straight line, and no move.
-pub fn slop() {
+pub(crate) fn slop() {
     title(b"no straight line for the slop");
-    let t = one(gesture::fresh(), 0, 100, 50);
-    let t = one(t, 10, 112, 62);
+    let mut t = one(gesture::fresh(), 0, 100, 50);
+    t = one(t, 10, 112, 62);
     tick(t, 700);
 }
 
 // "A captured touch denied LongPress."
-pub fn captured() {
+pub(crate) fn captured() {
     title(b"a captured touch has its LongPress");
-    let t = one(gesture::fresh(), 0, 100, 50);
-    let t = capture(t);
-    let t = tick(t, 700);
+    let mut t = one(gesture::fresh(), 0, 100, 50);
+    t = capture(t);
+    t = tick(t, 700);
     none(t, 800);
 }
 
 // "Keeping the raw wish when nothing is touched."
-pub fn wished() {
+pub(crate) fn wished() {
     title(b"the raw wish is used up where nothing is touched");
-    let t = wish(gesture::fresh());
-    let t = capture(t);
-    let t = one(t, 0, 100, 50);
-    let t = capture(t);
-    let t = one(t, 10, 120, 50);
+    let mut t = wish(gesture::fresh());
+    t = capture(t);
+    t = one(t, 0, 100, 50);
+    t = capture(t);
+    t = one(t, 10, 120, 50);
     title(b"and kept for the touch it is meant for");
-    let t = none(t, 20);
-    let t = one(t, 30, 100, 50);
-    let t = wish(t);
-    let t = capture(t);
+    t = none(t, 20);
+    t = one(t, 30, 100, 50);
+    t = wish(t);
+    t = capture(t);
     one(t, 40, 101, 50);
 }
 
 // "Reading fingers of a spent report."
-pub fn spent() {
+pub(crate) fn spent() {
     title(b"a spent report's fingers");
-    let t = one(gesture::fresh(), 0, 100, 50);
-    let t = report(t, 10, 2, 1, at(100, 50), at(200, 50));
+    let mut t = one(gesture::fresh(), 0, 100, 50);
+    t = report(t, 10, 2, 1, at(100, 50), at(200, 50));
     report(t, 20, 0, 1, at(0, 0), at(0, 0));
 }
 
 // A point off the panel, also where a key changed.
-pub fn refused() {
+pub(crate) fn refused() {
     title(b"a point off the panel");
-    let t = one(gesture::fresh(), 0, 480, 0);
-    let t = report(t, 10, 1, 1, at(0, 320), at(0, 0));
+    let mut t = one(gesture::fresh(), 0, 480, 0);
+    t = report(t, 10, 1, 1, at(0, 320), at(0, 0));
     tick(t, 20);
 }

@@ -58,7 +58,7 @@ fn behind() {
     print::end();
 }
 
-pub fn rooms() {
+pub(crate) fn rooms() {
     short();
     ample();
     behind();
