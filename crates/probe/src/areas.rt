@@ -1,6 +1,7 @@
 // An area of bytes that is taken for an image: a count, and that many bytes, each a number.
 ghost use Prim.Native.Nat.{_<_};
 use crate::args;
+use crate::args::NUMBERS;
 use image::DecodeAnswer;
 use trace::Cursor;
 
@@ -30,8 +31,17 @@ fn decoded(area: &[u8], n: usize) -> DecodeAnswer {
     image::decode(area)
 }
 
+// The bytes of a call of kind 38, as an image; any other call has none.
+pub(crate) fn of_kind(s: &[u8], kind: u64, v: [u64; NUMBERS], c: Cursor) -> Area {
+    let n = args::low16(v[0]) as usize;
+    if kind == 38 {
+        return area_at(s, c, n);
+    }
+    area_at(s, c, 0)
+}
+
 // The next n bytes, as an image.
-pub(crate) fn area_at(s: &[u8], c: Cursor, n: usize) -> Area {
+fn area_at(s: &[u8], c: Cursor, n: usize) -> Area {
     let mut area = [0u8; KEPT];
     let mut to = c;
     let mut i = 0;

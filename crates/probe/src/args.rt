@@ -22,8 +22,9 @@ pub(crate) const MOST_64: u64 = 18_446_744_073_709_551_615;
 // The most numbers that a call without a list takes: those of a report.
 pub(crate) const NUMBERS: usize = 16;
 
-// The numbers of a call, and where they end.
+// The kind of a call, its numbers, and where they end.
 pub(crate) struct Args {
+    pub kind: u64,
     pub v: [u64; NUMBERS],
     pub to: Cursor,
 }
@@ -87,7 +88,7 @@ fn numbers(s: &[u8], kind: u64, c: Cursor) -> Args {
         v[k] = x.v;
         i += 1;
     }
-    Args { v, to }
+    Args { kind, v, to }
 }
 
 // Behind the kind of a call, if there is such a kind.
@@ -105,9 +106,11 @@ fn behind(place: usize, kind: u64, c: Cursor) -> Cursor {
     }
 }
 
-// The numbers of the call that begins at `place`, which is of that kind.
-pub(crate) fn of_kind(s: &[u8], place: usize, kind: u64, c: Cursor) -> Args {
-    numbers(s, kind, behind(place, kind, c))
+// The call that begins at `place`: its kind and its numbers.
+pub(crate) fn read(s: &[u8], place: usize) -> Args {
+    let k = trace::next_number(s, Cursor::At(place), MOST_64);
+    let c = k.to;
+    numbers(s, k.v, behind(place, k.v, c))
 }
 
 pub(crate) fn low8(v: u64) -> u8 {

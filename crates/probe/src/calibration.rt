@@ -220,10 +220,11 @@ fn scpi_take(p: Pending) -> Kept {
     }
 }
 
-// The calls on the pending record.
-pub(crate) fn pending(kind: u64, v: [u64; NUMBERS], p: Pending) -> Kept {
-    if kind == 20 {
-        return scpi_put(v, p);
+// The calls on the pending record; any other leaves it, and its own answer.
+pub(crate) fn on_pending(kind: u64, v: [u64; NUMBERS], p: Pending, reply: Reply) -> Kept {
+    match kind {
+        20 => scpi_put(v, p),
+        21 => scpi_take(p),
+        _ => and_pending(reply, p),
     }
-    scpi_take(p)
 }

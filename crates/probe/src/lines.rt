@@ -321,16 +321,11 @@ pub(crate) fn ended(out: &mut [u8], at: usize, said: [Piece; PIECES]) -> usize {
     byte(out, a, b'\n')
 }
 
-// A whole line, if the call was read to its end.
-pub(crate) fn line(out: &mut [u8], at: usize, i: u64, to: Cursor, r: Reply) -> usize {
+// A whole line.
+pub(crate) fn line(out: &mut [u8], at: usize, i: u64, r: Reply) -> usize {
     let said = r.said;
-    match to {
-        Cursor::At(_) => {
-            let a = head(out, at, i, r.refusal);
-            ended(out, a, said)
-        }
-        Cursor::Stop(_, _) => at,
-    }
+    let a = head(out, at, i, r.refusal);
+    ended(out, a, said)
 }
 
 fn nibble(n: u8) -> u8 {

@@ -9,14 +9,27 @@ mod lists;
 mod runs;
 mod tracker;
 
+use gesture::Answer;
+use gesture::Tracker;
 use lines::LINE_MOST;
 use lines::ROOM;
+use lines::Reply;
 use panel::Refusal;
-use runs::Run;
+use touchcal::Pending;
 use trace::Cursor;
 
 // The most bytes that a run may have, and one more, by which a longer one is known.
 const INPUT_MOST: usize = 1_048_576;
+
+// What lives through a run.
+struct Run {
+    tracker: Tracker,
+    pending: Pending,
+    // Where the next call begins, or why reading has stopped.
+    to: Cursor,
+    // How far the buffer is filled.
+    at: usize,
+}
 
 fn input() -> [u8; 1_048_577] {
     [0; 1_048_577]
@@ -29,13 +42,12 @@ fn write(out: &[u8], at: usize) {
 }
 
 // Writes the buffer out if the next line might not fit.
-fn with_room(out: &mut [u8], r: Run) -> Run {
-    if r.at < ROOM - LINE_MOST {
-        return r;
+fn with_room(out: &mut [u8], at: usize) -> usize {
+    if at < ROOM - LINE_MOST {
+        return at;
     }
-    write(out, r.at);
-    let to = r.to;
-    runs::read_on(r, to, 0)
+    write(out, at);
+    0
 }
 
 // Whether there is a call to read.
@@ -61,11 +73,23 @@ fn number_after(made: usize) -> u64 {
     0
 }
 
-// The next call, behind those that were made.
-fn turn(s: &[u8], out: &mut [u8], made: usize, r: Run) -> Run {
-    let to = r.to;
-    let n = runs::call(s, out, number_after(made), place_of(to), r);
-    with_room(out, n)
+// The line of a call, if it was read to its end.
+fn printed(
+    out: &mut [u8],
+    at: usize,
+    made: usize,
+    to: Cursor,
+    kind: u64,
+    reply: Reply,
+    a: Answer,
+) -> usize {
+    match to {
+        Cursor::At(_) => {
+            let b = runs::line(out, at, number_after(made), kind, reply, a);
+            with_room(out, b)
+        }
+        Cursor::Stop(_, _) => at,
+    }
 }
 
 // The last line, written out with what is in the buffer.
@@ -74,9 +98,47 @@ fn finish(out: &mut [u8], at: usize, made: usize, to: Cursor) {
     write(out, a);
 }
 
+fn fresh() -> Run {
+    let tracker = gesture::fresh();
+    let pending = touchcal::cleared();
+    Run {
+        tracker,
+        pending,
+        to: Cursor::At(0),
+        at: 0,
+    }
+}
+
+// The next call, behind those that were made: read straight through, and made on what was read. Once reading has
+// stopped nothing is printed, and the run ends.
+fn turn(s: &[u8], out: &mut [u8], made: usize, r: Run) -> Run {
+    let from = r.to;
+    let c = args::read(s, place_of(from));
+    let v = c.v;
+    let to_lists = c.to;
+    let told = runs::answered(s, c.kind, v, to_lists);
+    let to_area = told.to;
+    let reply = told.reply;
+    let area = areas::of_kind(s, c.kind, v, to_area);
+    let to = area.to;
+    let d = area.decoded;
+    let kept = calibration::on_pending(c.kind, v, r.pending, reply);
+    let a = tracker::made(c.kind, v, d, r.tracker);
+    let line = kept.reply;
+    let at = printed(out, r.at, made, to, c.kind, line, a);
+    let pending = kept.pending;
+    let tracker = a.tracker;
+    Run {
+        tracker,
+        pending,
+        to,
+        at,
+    }
+}
+
 // The calls of the run, and its last line. A call takes a byte or more, so there are no more than bytes.
 fn play(s: &[u8], out: &mut [u8]) {
-    let mut r = runs::fresh();
+    let mut r = fresh();
     let mut made = 0;
     while made < s.len() {
         let to = r.to;

@@ -1,6 +1,5 @@
 // The calls of the tracker, kinds 30 to 38, each with the tracker line: the gesture, the log line and the
 // tracker's image after the call.
-use crate::areas;
 use crate::args;
 use crate::args::NUMBERS;
 use crate::lines;
@@ -15,13 +14,6 @@ use gesture::Tracker;
 use image::DecodeAnswer;
 use panel::Axis;
 use panel::Point;
-use trace::Cursor;
-
-// What a call is answered with, and where it ends.
-pub(crate) struct Tracked {
-    pub answer: Answer,
-    pub to: Cursor,
-}
 
 fn axis(a: Axis) -> u64 {
     match a {
@@ -153,16 +145,20 @@ fn quiet(refusal: u8, t: Tracker) -> Answer {
     }
 }
 
-fn made(kind: u64, v: [u64; NUMBERS], t: Tracker) -> Answer {
+// The call of that kind; one that is not of the tracker leaves it.
+pub(crate) fn made(kind: u64, v: [u64; NUMBERS], d: DecodeAnswer, t: Tracker) -> Answer {
+    let x = v[0];
     match kind {
-        31 => gesture::event(t, args::report(v), v[0]),
-        32 => gesture::tick(t, v[0]),
+        30 => quiet(0, gesture::fresh()),
+        31 => gesture::event(t, args::report(v), x),
+        32 => gesture::tick(t, x),
         33 => gesture::capture(t),
         34 => gesture::capture_direct(t),
-        35 => gesture::raw_next(t, v[0] != 0),
-        36 => gesture::set_grab_ms(t, args::low16(v[0])),
+        35 => gesture::raw_next(t, x != 0),
+        36 => gesture::set_grab_ms(t, args::low16(x)),
         37 => grabbed(t),
-        _ => quiet(0, gesture::fresh()),
+        38 => loaded(d, t),
+        _ => quiet(0, t),
     }
 }
 
@@ -182,22 +178,6 @@ fn loaded(d: DecodeAnswer, t: Tracker) -> Answer {
         DecodeAnswer::Answered(n) => quiet(0, n),
         DecodeAnswer::Refused(why) => quiet(panel::number(why), t),
     }
-}
-
-fn load(s: &[u8], v: [u64; NUMBERS], c: Cursor, t: Tracker) -> Tracked {
-    let a = areas::area_at(s, c, args::low16(v[0]) as usize);
-    let d = a.decoded;
-    let to = a.to;
-    let answer = loaded(d, t);
-    Tracked { answer, to }
-}
-
-pub(crate) fn call(s: &[u8], kind: u64, v: [u64; NUMBERS], c: Cursor, t: Tracker) -> Tracked {
-    if kind == 38 {
-        return load(s, v, c, t);
-    }
-    let answer = made(kind, v, t);
-    Tracked { answer, to: c }
 }
 
 // The gesture; of grab_ms the number stands in its place.
@@ -228,16 +208,11 @@ fn whole(
     image(out, b, t)
 }
 
-// The tracker line, if the call was read to its end.
-pub(crate) fn line(out: &mut [u8], at: usize, i: u64, kind: u64, to: Cursor, a: Answer) -> usize {
+// The tracker line.
+pub(crate) fn line(out: &mut [u8], at: usize, i: u64, kind: u64, a: Answer) -> usize {
     let g = a.gesture;
     let l = a.log;
     let t = a.tracker;
-    match to {
-        Cursor::At(_) => {
-            let b = lines::head(out, at, i, a.refusal);
-            whole(out, b, said(kind, g, t), log(l), t)
-        }
-        Cursor::Stop(_, _) => at,
-    }
+    let b = lines::head(out, at, i, a.refusal);
+    whole(out, b, said(kind, g, t), log(l), t)
 }
