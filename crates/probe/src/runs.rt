@@ -16,7 +16,7 @@ pub(crate) struct Told {
     pub to: Cursor,
 }
 
-// The calls without a list.
+// The calls without a list; one of another kind says nothing here.
 fn plain(kind: u64, v: [u64; NUMBERS]) -> Reply {
     match kind {
         1 => geometry::dist(v),
@@ -29,7 +29,8 @@ fn plain(kind: u64, v: [u64; NUMBERS]) -> Reply {
         13 => calibration::dist10(v),
         16 => calibration::q16(v),
         17 => calibration::to_f32(v),
-        _ => calibration::from_f32(v),
+        18 => calibration::from_f32(v),
+        _ => lines::answered(lines::silent()),
     }
 }
 
@@ -56,7 +57,7 @@ fn fit(s: &[u8], c: Cursor) -> Told {
     Told { reply, to }
 }
 
-// A call of any other kind is read no further, and its answer is not printed.
+// A call of another kind is read no further here.
 pub(crate) fn answered(s: &[u8], kind: u64, v: [u64; NUMBERS], c: Cursor) -> Told {
     match kind {
         14 => resid(s, v, c),
