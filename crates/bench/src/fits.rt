@@ -80,7 +80,7 @@ fn moved(p: Pair, i: u64) -> Pair {
     Pair { raw, tgt }
 }
 
-pub fn fit(h: Numbers, calls: u64) -> u64 {
+pub(crate) fn fit(h: Numbers, calls: u64) -> u64 {
     let held = h.v;
     let mut list = pairs(held);
     let check = targets(held);

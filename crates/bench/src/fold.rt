@@ -3,11 +3,11 @@ use calmap::Verdict;
 use gesture::Gesture;
 use gesture::Given;
 
-pub fn with(sum: u64, v: u64) -> u64 {
+pub(crate) fn with(sum: u64, v: u64) -> u64 {
     std::num::wrapping_add_u64(sum, v)
 }
 
-pub fn signed(v: i32) -> u64 {
+pub(crate) fn signed(v: i32) -> u64 {
     let m = panel::magnitude(v) as u64;
     if v < 0 {
         return m + 4294967296;
@@ -37,14 +37,14 @@ fn code(g: Gesture) -> u64 {
     }
 }
 
-pub fn given(g: Given) -> u64 {
+pub(crate) fn given(g: Given) -> u64 {
     match g {
         Given::Nothing => 0,
         Given::Gave(g) => code(g),
     }
 }
 
-pub fn verdict(v: Verdict) -> u64 {
+pub(crate) fn verdict(v: Verdict) -> u64 {
     match v {
         Verdict::Pass => 0,
         Verdict::Scale => 1,

@@ -7,9 +7,9 @@ use trace::CallKind;
 use trace::Cursor;
 use trace::Taken;
 
-pub const PLACES: usize = 16;
+pub(crate) const PLACES: usize = 16;
 
-pub struct Calls {
+pub(crate) struct Calls {
     pub events: [Event; PLACES],
     pub times: [u64; PLACES],
     pub n: usize,
@@ -21,7 +21,7 @@ struct One {
 }
 
 // A place among them, whatever the number is.
-pub fn slot(i: usize) -> usize
+pub(crate) fn slot(i: usize) -> usize
     ensures { λ r. ⌜ r < 16 ⌝ }
 {
     i % PLACES
@@ -63,7 +63,7 @@ fn one_of(t: Taken, length: usize) -> One {
 }
 
 // All calls from here on.
-pub fn calls_at(s: &[u8], c: Cursor) -> Calls {
+pub(crate) fn calls_at(s: &[u8], c: Cursor) -> Calls {
     let mut events = [no_event(); PLACES];
     let mut times = [0u64; PLACES];
     let mut at = place_of(c);

@@ -2,18 +2,18 @@
 ghost use Prim.Native.Nat.{_<_};
 use trace::Cursor;
 
-pub const MOST: u64 = 18_446_744_073_709_551_615;
+pub(crate) const MOST: u64 = 18_446_744_073_709_551_615;
 
 // The most numbers that a row takes: three lists of nine points, and some to spare.
-pub const PLACES: usize = 64;
+pub(crate) const PLACES: usize = 64;
 
-pub struct Numbers {
+pub(crate) struct Numbers {
     pub v: [u64; PLACES],
     pub n: usize,
 }
 
 // A place among them, whatever the number is.
-pub fn slot(i: usize) -> usize
+pub(crate) fn slot(i: usize) -> usize
     ensures { λ r. ⌜ r < 64 ⌝ }
 {
     i % PLACES
@@ -27,7 +27,7 @@ fn is_there(to: Cursor) -> bool {
 }
 
 // All numbers from here on.
-pub fn at(s: &[u8], c: Cursor) -> Numbers {
+pub(crate) fn at(s: &[u8], c: Cursor) -> Numbers {
     let mut v = [0u64; PLACES];
     let mut to = c;
     let mut n = 0;
@@ -45,7 +45,7 @@ pub fn at(s: &[u8], c: Cursor) -> Numbers {
 }
 
 // A signed number is written 2v, or -2v - 1 below zero.
-pub fn signed32(v: u64) -> i32 {
+pub(crate) fn signed32(v: u64) -> i32 {
     let h = (v / 2 % 2147483648) as i32;
     if v % 2 == 0 {
         return h;
@@ -53,7 +53,7 @@ pub fn signed32(v: u64) -> i32 {
     !h
 }
 
-pub fn signed16(v: u64) -> i16 {
+pub(crate) fn signed16(v: u64) -> i16 {
     let h = (v / 2 % 32768) as i16;
     if v % 2 == 0 {
         return h;
@@ -61,6 +61,6 @@ pub fn signed16(v: u64) -> i16 {
     !h
 }
 
-pub fn low16(v: u64) -> u16 {
+pub(crate) fn low16(v: u64) -> u16 {
     (v % 65536) as u16
 }

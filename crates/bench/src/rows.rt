@@ -14,7 +14,7 @@ fn after(k: usize, by: usize, n: usize, first: usize) -> usize {
     if next < n { next } else { first }
 }
 
-pub fn isqrt(h: Numbers, calls: u64) -> u64 {
+pub(crate) fn isqrt(h: Numbers, calls: u64) -> u64 {
     let v = h.v;
     let mut sum = 0u64;
     let mut k = 0;
@@ -50,7 +50,7 @@ fn stepped(a: Q16Answer) -> u64 {
     }
 }
 
-pub fn q16(h: Numbers, calls: u64) -> u64 {
+pub(crate) fn q16(h: Numbers, calls: u64) -> u64 {
     let held = h.v;
     let v = floats(held);
     let mut sum = 0u64;
@@ -98,7 +98,7 @@ fn applied(a: ApplyAnswer) -> u64 {
 }
 
 // Six steps, and then the points.
-pub fn apply16(h: Numbers, calls: u64) -> u64 {
+pub(crate) fn apply16(h: Numbers, calls: u64) -> u64 {
     let held = h.v;
     let c = cal(held);
     let v = signs(held);

@@ -61,7 +61,7 @@ fn made(t: Tracker, ev: Event, now: u64) -> Answer {
 }
 
 // So many reports, each on the tracker that the last one left.
-pub fn reports(c: Calls, calls: u64) -> u64 {
+pub(crate) fn reports(c: Calls, calls: u64) -> u64 {
     let events = c.events;
     let times = c.times;
     let mut ring = [no_line(); LINES];
@@ -105,7 +105,7 @@ fn touched(ev: Event, now: u64) -> Tracker {
 }
 
 // So many ticks, while the finger of the first report is down.
-pub fn ticks(c: Calls, calls: u64) -> u64 {
+pub(crate) fn ticks(c: Calls, calls: u64) -> u64 {
     let events = c.events;
     let times = c.times;
     let ev = events[0];
