@@ -216,7 +216,8 @@ fn judge(root: &Path, work: &Path, some: &[Mutant]) -> Vec<Mutant> {
                     println!("listed as the same, and told by {part}: {}", m.name());
                     wrong += 1;
                 }
-                *by.entry(part.split_once(' ').map_or(part.clone(), |(a, b)| if a == "sample" { "samples".into() } else { format!("{a} {b}") })).or_insert(0) += 1;
+                // a sample says its name behind a colon
+                *by.entry(part.split(':').next().unwrap().to_string()).or_insert(0) += 1;
                 told += 1;
             }
             Verdict::Untold if same.contains_key(&m.name()) => alike += 1,

@@ -32,7 +32,7 @@ fn main() {
     let names = String::from_utf8(file("crates/samples/args")).unwrap();
     for name in names.lines() {
         if play::played(&file(&format!("crates/samples/data/{name}.trace"))) != file(&format!("crates/samples/data/{name}.txt")) {
-            told(&format!("sample {name}"));
+            told(&format!("samples: {name}"));
         }
     }
     let cases = String::from_utf8(file("crates/cases/stdout")).unwrap();
