@@ -10,7 +10,7 @@ mod Chains
 mod Slight
 mod Floors
 mod Rooted
-mod Newton
+mod Digits
 mod Walking
 mod Tallying
 mod Judging

@@ -32,7 +32,7 @@ pick true r v f g lo hi = record { below = f tt; above = subst (λ (k : ℕ). v 
     two r = omega arith
 pick false r v f g lo hi = record { below = lo; above = g tt }
 
-square-two : (q : ℕ) → 2 * q * (2 * q) ≡ 4 * (q * q)
+pub square-two : (q : ℕ) → 2 * q * (2 * q) ≡ 4 * (q * q)
 square-two q =
     let e : 2 * q ≡ q + q = omega arith in
     let f : (q + q) * (q + q) ≡ q * q + q * q + (q * q + q * q) = simp (add-mul, mul-add) in

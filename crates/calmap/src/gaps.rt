@@ -18,7 +18,7 @@ pub enum Dist10Answer {
 fn in_tenths(d2: u64) -> Tenths
     ensures { λ r. ⌜ r ≡ tenths (tenthsOf d2) ⌝ }
 {
-    Tenths((roots::isqrt(d2) * 10 / 16) as u32)
+    Tenths((roots::isqrt(d2) * 10 >> 4) as u32)
 }
 
 // The distance of two places in tenths of a pixel. The sum of the two squares is unsigned, so that

@@ -1,12 +1,16 @@
 -- Numbers of one, two and eight bytes, stored and read byte by byte. Assumes nothing.
 use Prim.Native.Nat.{ℕ, suc, _+_, _*_, _%_, _/_, _≤_, _<_}
-use mathlib.Core.Path.{_≡_, sym, _∙_, ap}
+use mathlib.Core.Path.{_≡_, refl, sym, _∙_, ap}
 use mathlib.Core.List.{List}
 use native.Mathlib.Nat.{mod-eq-of-lt}
 use native.Mathlib.Numerals.{add-one}
 use native.Mathlib.Omega.{arith}
+use lib.Bits.{bitAnd, and-mask}
 use lib.ListN.{length, getD, set}
 use lib.Seq.{sets}
+use mir.Facts.{fits-mask}
+use mir.Syntax.{w8}
+use mir.Val.{Fits}
 use Rattle.image.specs.Rows.{bytesOf}
 use Rattle.image.specs.Image.{imageBytes}
 use Rattle.image.specs.Reading.{numberAt}
@@ -39,6 +43,17 @@ room area at k w h less =
     let fits = h .1 in
     omega (arith, long, fits, less)
 
+-- The low byte, `n & 255`.
+
+abbrev pub low : ℕ → ℕ
+low n = bitAnd n 255
+
+pub low-fits : (n : ℕ) → Fits w8 (low n)
+low-fits n = fits-mask n 8 tt
+
+low-is : (n : ℕ) {m : ℕ} → n ≡ m → low n ≡ m % 256
+low-is n e = and-mask n 8 ∙ ap (λ (k : ℕ). k % 256) e
+
 module _ (area : List ℕ) (at : ℕ) where
   pub stored-1 : (v : ℕ) → v < 256 → set area at v ≡ sets area at (bytesOf 1 v)
   unfolding bytesOf
@@ -48,8 +63,9 @@ module _ (area : List ℕ) (at : ℕ) where
   unfolding bytesOf
   stored-2 v = ap (λ (k : ℕ). set (set area at (v % 256)) k (v / 256 % 256)) (add-one at)
 
+  -- of eight bytes each is taken out by `& 255`
   pub stored-8 : (v v1 v2 v3 v4 v5 v6 v7 : ℕ) → v1 ≡ v / 256 → v2 ≡ v1 / 256 → v3 ≡ v2 / 256 → v4 ≡ v3 / 256 → v5 ≡ v4 / 256 → v6 ≡ v5 / 256 → v7 ≡ v6 / 256
-      → set (set (set (set (set (set (set (set area at (v % 256)) (at + 1) (v1 % 256)) (at + 2) (v2 % 256)) (at + 3) (v3 % 256)) (at + 4) (v4 % 256)) (at + 5) (v5 % 256)) (at + 6) (v6 % 256)) (at + 7) (v7 % 256)
+      → set (set (set (set (set (set (set (set area at (low v)) (at + 1) (low v1)) (at + 2) (low v2)) (at + 3) (low v3)) (at + 4) (low v4)) (at + 5) (low v5)) (at + 6) (low v6)) (at + 7) (low v7)
       ≡ sets area at (bytesOf 8 v)
   unfolding bytesOf
   stored-8 v v1 v2 v3 v4 v5 v6 v7 e1 e2 e3 e4 e5 e6 e7 =
@@ -59,7 +75,7 @@ module _ (area : List ℕ) (at : ℕ) where
       let f5 = e5 ∙ ap (λ (n : ℕ). n / 256) f4 in
       let f6 = e6 ∙ ap (λ (n : ℕ). n / 256) f5 in
       let f7 = e7 ∙ ap (λ (n : ℕ). n / 256) f6 in
-      λ i. set (set (set (set (set (set (set (set area at (v % 256)) (add-one at i) (e1 i % 256)) (two at i) (f2 i % 256)) (three at i) (f3 i % 256)) (four at i) (f4 i % 256)) (five at i) (f5 i % 256)) (six at i) (f6 i % 256)) (seven at i) (f7 i % 256)
+      λ i. set (set (set (set (set (set (set (set area at (low-is v refl i)) (add-one at i) (low-is v1 e1 i)) (two at i) (low-is v2 f2 i)) (three at i) (low-is v3 f3 i)) (four at i) (low-is v4 f4 i)) (five at i) (low-is v5 f5 i)) (six at i) (low-is v6 f6 i)) (seven at i) (low-is v7 f7 i)
 
   pub read-1 : getD area at 0 ≡ numberAt area at 1
   unfolding numberAt

@@ -43,21 +43,21 @@ pub(crate) fn put8(image: &mut [u8], at: usize, v: u64)
     requires { ⌜ (length (now image) ≡ imageBytes) × (at + 8 ≤ imageBytes) ⌝ }
     ensures { λ _. ⌜ now (image .exit) ≡ sets (now (image .entry)) at (bytesOf 8 v) ⌝ }
 {
-    let v1 = v / 256;
-    let v2 = v1 / 256;
-    let v3 = v2 / 256;
-    let v4 = v3 / 256;
-    let v5 = v4 / 256;
-    let v6 = v5 / 256;
-    let v7 = v6 / 256;
-    image[at] = (v % 256) as u8;
-    image[at + 1] = (v1 % 256) as u8;
-    image[at + 2] = (v2 % 256) as u8;
-    image[at + 3] = (v3 % 256) as u8;
-    image[at + 4] = (v4 % 256) as u8;
-    image[at + 5] = (v5 % 256) as u8;
-    image[at + 6] = (v6 % 256) as u8;
-    image[at + 7] = (v7 % 256) as u8;
+    let v1 = v >> 8;
+    let v2 = v1 >> 8;
+    let v3 = v2 >> 8;
+    let v4 = v3 >> 8;
+    let v5 = v4 >> 8;
+    let v6 = v5 >> 8;
+    let v7 = v6 >> 8;
+    image[at] = (v & 255) as u8;
+    image[at + 1] = (v1 & 255) as u8;
+    image[at + 2] = (v2 & 255) as u8;
+    image[at + 3] = (v3 & 255) as u8;
+    image[at + 4] = (v4 & 255) as u8;
+    image[at + 5] = (v5 & 255) as u8;
+    image[at + 6] = (v6 & 255) as u8;
+    image[at + 7] = (v7 & 255) as u8;
 }
 
 pub(crate) fn put_point(image: &mut [u8], at: usize, p: Point)

@@ -1,69 +1,59 @@
--- The loop's invariant: y is Newton's step from x, at most 2 ^ 63, and x is the root at least. The measure is x.
-use Prim.Native.Nat.{ℕ, _+_, _*_, _/_, _^_, _≤_, _<_}
-use mathlib.Core.Path.{_≡_, refl, sym, subst}
+-- The loop's invariant is what is found when the pair of digits that `bit` counts is next; the measure is `bit`.
+use Prim.Native.Nat.{ℕ, _<_}
+use mathlib.Core.Path.{_≡_}
 use native.Mathlib.Omega.{arith}
 use borrow.Author.Needs.{needs}
-use Rattle.calmap.proofs.Newton.{small-root, square-pos, quotient-below, square-above, root-pos, sum-below, step-above, stop-below}
+use Rattle.calmap.specs.Roots.{IsRoot}
+use Rattle.calmap.proofs.Digits.{Found, found-first, found-one, found-zero, found-all}
 use Rattle.calmap.proofs.Rooted.{one-root, root-is}
 use Rattle.calmap.proofs.roots.isqrt.Statement.{statement}
 use Rattle.calmap.proofs.roots.isqrt.Tie as tie
 
+zero-root : {v : ℕ} → v ≡ 0 → IsRoot 0 v
+zero-root e = record { below = omega arith; above = omega (arith, e) }
+
 abbrev Inv-loop : tie.InvT-loop
-Inv-loop v x₀ y₀ x y = (0 < x) × (y ≡ (x + v / x) / 2) × (y ≤ 2 ^ 63) × (v < (x + 1) * (x + 1))
+Inv-loop v first bit₀ root₀ rest₀ bit root rest = Found v bit root rest
 
 abbrev μ-loop : tie.MeasureT-loop
-μ-loop v x₀ y₀ x y = x
+μ-loop v first bit₀ root₀ rest₀ bit root rest = bit
 
 returns : tie.Need-returns Inv-loop μ-loop
-returns c =
-    let v = c .before .args .v in
-    one-root (small-root v (c .if1 .taken)) (root-is v (c .before .fits .v .fits))
+returns c = one-root (zero-root (c .if1 .taken)) (root-is (c .before .args .v) (c .before .fits .v .fits))
 
-above-root-requires : tie.Need-above-root-requires Inv-loop μ-loop
-above-root-requires c = search needs
+top-pair-requires : tie.Need-top-pair-requires Inv-loop μ-loop
+top-pair-requires c = omega (arith, c .if1 .left)
 
-div-y : tie.Need-div-y Inv-loop μ-loop
-div-y c = square-pos _ _ (c .above-root .ensures .0)
-
-add-y : tie.Need-add-y Inv-loop μ-loop
-add-y c = let l = quotient-below _ _ (c .above-root .ensures .0) in record { fits = omega (arith, c .above-root .ensures .1) }
+sub-rest : tie.Need-sub-rest Inv-loop μ-loop
+sub-rest c = c .top-pair .ensures .0
 
 loop-holds : tie.Need-loop-holds Inv-loop μ-loop
-loop-holds c =
-    let h = c .above-root .ensures .0 in
-    let l = quotient-below _ _ h in
-    (square-pos _ _ h, refl, omega (arith, c .above-root .ensures .1), square-above _ _ h)
+loop-holds c = let e = c .top-pair .ensures in found-first _ _ (e .3 .0) (e .3 .1) (e .0) (e .1) (e .2)
 
--- in a turn: y, the next guess, is above 0 and the root at least
-above : (c : tie.In-loop Inv-loop μ-loop) → c .before .before .before .before .args .v < (c .before .loop .y + 1) * (c .before .loop .y + 1)
-above c =
-    let l = c .before .loop in
-    subst (λ (k : ℕ). c .before .before .before .before .args .v < (k + 1) * (k + 1)) (sym (l .inv .1)) (step-above (c .before .before .before .before .args .v) (l .x) (l .inv .0))
+-- in a turn a pair is to come
+to-come : (c : tie.In-loop Inv-loop μ-loop) → 0 < c .before .loop .bit
+to-come c = omega (arith, c .loop-test .taken)
 
-positive : (c : tie.In-loop Inv-loop μ-loop) → 0 < c .before .loop .y
-positive c = root-pos (c .before .before .before .before .args .v) (c .before .loop .y) (c .before .before .before .if1 .left) (above c)
-
-fine : (c : tie.In-loop Inv-loop μ-loop) → c .before .loop .y + c .before .before .before .before .args .v / c .before .loop .y < 2 ^ 64
-fine c = sum-below (c .before .before .before .before .args .v) (c .before .loop .y) (c .before .before .before .before .fits .v .fits) (positive c) (c .before .loop .inv .2) (above c)
-
-div-y-2 : tie.Need-div-y-2 Inv-loop μ-loop
-div-y-2 c = positive c
-
-add-y-2 : tie.Need-add-y-2 Inv-loop μ-loop
-add-y-2 c = record { fits = fine c }
+add-next : tie.Need-add-next Inv-loop μ-loop
+add-next c = record { fits = omega (arith, c .before .loop .inv .fits) }
 
 loop-less : tie.Need-loop-less Inv-loop μ-loop
-loop-less c = c .loop-test .taken
+loop-less c = omega (arith, to-come (c .before))
 
 loop-again : tie.Need-loop-again Inv-loop μ-loop
-loop-again c = let f = fine c in (positive c, refl, omega arith, above c)
+loop-again c = found-zero (c .before .before .loop .inv) (to-come (c .before)) (c .if2 .taken)
+
+add-root : tie.Need-add-root Inv-loop μ-loop
+add-root c = record { fits = omega (arith, c .before .before .loop .inv .fits) }
+
+loop-less-2 : tie.Need-loop-less-2 Inv-loop μ-loop
+loop-less-2 c = omega (arith, to-come (c .before))
+
+loop-again-2 : tie.Need-loop-again-2 Inv-loop μ-loop
+loop-again-2 c = found-one (c .before .before .loop .inv) (to-come (c .before)) (c .if2 .left)
 
 returns-2 : tie.Need-returns-2 Inv-loop μ-loop
-returns-2 c =
-    let v = c .before .before .before .before .args .v in
-    let l = c .before .loop in
-    one-root (record { below = stop-below v (l .x) (l .y) (l .inv .0) (l .inv .1) (c .loop-test .left); above = l .inv .3 })
-    (root-is v (c .before .before .before .before .fits .v .fits))
+returns-2 c = one-root (found-all (c .before .loop .inv) (c .loop-test .left)) (root-is (c .before .before .before .before .args .v) (c .before .before .before .before .fits .v .fits))
 
 pub isqrt-spec : {M : Type 1} → statement M
-isqrt-spec = tie.close (tie.spec Inv-loop μ-loop returns above-root-requires div-y add-y loop-holds div-y-2 add-y-2 loop-less loop-again returns-2)
+isqrt-spec = tie.close (tie.spec Inv-loop μ-loop returns top-pair-requires sub-rest loop-holds add-next loop-less loop-again add-root loop-less-2 loop-again-2 returns-2)
