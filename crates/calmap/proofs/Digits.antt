@@ -9,9 +9,9 @@ use lib.Pow.{pow-mono, pow-add, shl-exact}
 use Rattle.calmap.specs.Roots.{IsRoot}
 use Rattle.calmap.proofs.Rooted.{square-two}
 
--- Of v's pairs of digits the last `places` are still to come, and what stands before them has the root `digits`. `bit` is
--- what the next pair counts, 0 if there is none. `rest` is what v has over the square, and with `root`, twice the root in
--- the weight of the next digit, it tells that digit.
+-- Of v's pairs of digits the last `places` are still to come, and what stands before them has the root `digits`: the root so
+-- far is a = digits·2 ^ places, and its next digit counts b = 2 ^ places / 2. `bit` is b·b, what the next pair counts, 0 if
+-- there is none; `root` is 2·a·b and `rest` is v - a·a. The sums stay within 64 bits.
 pub record Found (v bit root rest : ℕ) : Type 0 where
   pub places : ℕ
   pub digits : ℕ

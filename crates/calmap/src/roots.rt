@@ -1,10 +1,10 @@
-// The integer square root of every u64, a binary digit at a time, with shifts and subtraction: no number of 64 bits is
-// divided in the firmware.
+// The integer square root of every u64, a binary digit at a time, with shifts and subtraction: the firmware has no room
+// for a routine that divides 64 bits.
 ghost use mathlib.Core.Path.{_≡_};
 ghost use Prim.Native.Nat.{ℕ, _*_, _^_, _≤_, _<_};
 ghost use Rattle.calmap.specs.Roots.{rootOf};
 
-// What the highest pair of binary digits that v has counts, a power of four.
+// What the highest pair of binary digits that v has counts: a power of four.
 fn top_pair(v: u64) -> u64
     requires { ⌜ 0 < v ⌝ }
     ensures { λ r. ⌜ (r ≤ v) × (v < 4 * r) × (r ≤ 2 ^ 62) × ((n : ℕ) × (r ≡ 4 ^ n)) ⌝ }
@@ -12,10 +12,11 @@ fn top_pair(v: u64) -> u64
     1u64 << ((63 - u64::leading_zeros(v)) >> 1 << 1)
 }
 
-// The largest r with r * r <= v. It has a digit for each pair of v's; the first is 1, since the pair is not 0. Where `bit`
-// is what the next pair counts and d the root so far, as a number whose last digit counts 1, `rest` is v less the square of
-// what d stands for and `root` is 4 * d * bit, so that a digit 1 adds `root + bit` to the square. Each digit has its own way
-// through the loop: joined, the compiler makes four moves of the one test, and a third more instructions.
+// The largest r with r * r <= v, from its highest binary digit down: one for each pair of v's, and the first is 1. With a
+// for the root so far and b for what its next digit counts, `bit` is b * b, `root` is 2 * a * b and `rest` is v - a * a. A
+// digit 1 makes a square of (a + b) * (a + b), which has `root + bit` more. Behind the last digit b is a half, so that
+// `bit` is 0 and `root` is a. The two digits go round the loop each its own way: where they are joined, the compiler makes
+// moves of the test, and takes more instructions.
 pub fn isqrt(v: u64) -> u64
     ensures { λ r. ⌜ r ≡ rootOf v ⌝ }
 {
