@@ -39,6 +39,7 @@ pub(crate) fn put2(image: &mut [u8], at: usize, v: u16)
     image[at + 1] = (v / 256 % 256) as u8;
 }
 
+// By shifts and masks: no number of 64 bits is divided in the firmware.
 pub(crate) fn put8(image: &mut [u8], at: usize, v: u64)
     requires { ⌜ (length (now image) ≡ imageBytes) × (at + 8 ≤ imageBytes) ⌝ }
     ensures { λ _. ⌜ now (image .exit) ≡ sets (now (image .entry)) at (bytesOf 8 v) ⌝ }
