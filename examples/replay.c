@@ -31,13 +31,13 @@ static int32_t next_signed(void)
 }
 
 /* Kinds of call. Those on the tracker are as `which`, from FIRST on. */
-enum { APPLY16 = 10, FIRST = 30, LOAD = 38, KINDS };
+enum { APPLY16 = 10, FIRST = 30, LOAD = 38, KINDS = 50 };
 
 /* The arguments of the kinds that C has no call for: n is a number, p a count and so many points. */
 static const char *const skipped[KINDS] = {
     [1] = "nnnn",  [2] = "nnnn",      [3] = "nnnnnnnnnnn", [4] = "nn",  [11] = "nnnnnnnn", [12] = "n",
     [13] = "nnnn", [14] = "nnnnnnpp", [15] = "nnnnnnp",    [16] = "n",  [17] = "nnnnnn",   [18] = "nnnnnn",
-    [19] = "ppp",  [20] = "nnnnnn",   [21] = "",
+    [19] = "ppp",  [20] = "nnnnnn",   [21] = "",           [43] = "nnnn", [44] = "nnnnnnpp", [49] = "ppp",
 };
 
 static void skip(const char *arguments)

@@ -25,7 +25,7 @@ const OWN: &str = "oracle/src";
 const PATIENCE: Duration = Duration::from_secs(10);
 
 /// The texts, each with the part of it that is looked at: from one line's start to another's, to the end without.
-const TEXTS: [(&str, &str, Option<&str>, Option<&str>); 10] = [
+const TEXTS: [(&str, &str, Option<&str>, Option<&str>); 11] = [
     (PUBLISHED, "gesture.rs", None, Some("    /// Test hook (DBG:SWIPE")),
     // behind the two synth hooks
     (PUBLISHED, "gesture.rs", Some("/// DBG:TOUCH? gesture line"), None),
@@ -37,7 +37,9 @@ const TEXTS: [(&str, &str, Option<&str>, Option<&str>); 10] = [
     // what document 01 refuses and settles beside the Rust
     (OWN, "answers.rs", Some("const LIST_MOST"), Some("thread_local!")),
     (OWN, "answers.rs", Some("            3 => {"), Some("            16 => {")),
-    (OWN, "answers.rs", Some("fn apply16("), None),
+    (OWN, "answers.rs", Some("pub fn apply16("), None),
+    // the tenths of request [6], which the Rust does not have
+    (OWN, "tenths.rs", None, None),
 ];
 
 fn text(root: &Path, folder: &str, file: &str) -> String {

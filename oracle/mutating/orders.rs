@@ -6,7 +6,7 @@ const PUBLISHED: &str = "docs/src/firmware/src";
 const OWN: &str = "oracle/src";
 
 /// Folder, file, what is wrong, the text as it stands, the wrong one.
-const ORDERS: [(&str, &str, &str, &str, &str); 12] = [
+const ORDERS: [(&str, &str, &str, &str, &str); 13] = [
     (
         OWN,
         "numbers.rs",
@@ -94,14 +94,14 @@ const ORDERS: [(&str, &str, &str, &str, &str); 12] = [
         "    if !targets.iter().all(|&(x, y)| on_panel(Point { x, y })) {
         return Err(TARGET);
     }
-    match",
+    // where",
         "    if tried(|| touchcal::fit(raw, tgt, &[]).is_none()) == Some(true) {
         return Err(NOFIT);
     }
     if !targets.iter().all(|&(x, y)| on_panel(Point { x, y })) {
         return Err(TARGET);
     }
-    match",
+    // where",
     ),
     (
         OWN,
@@ -116,6 +116,7 @@ const ORDERS: [(&str, &str, &str, &str, &str); 12] = [
     ),
     (PUBLISHED, "touchcal.rs", "a refused scpi_put keeps what was pending", "    unsafe { *core::ptr::addr_of_mut!(PENDING) =", "    if c.is_some() { unsafe { *core::ptr::addr_of_mut!(PENDING) ="),
     (OWN, "answers.rs", "a list of targets over 64 is taken in fit", " || targets.len() > LIST_MOST {", " {"),
+    (OWN, "tenths.rs", "the root is cut before it is scaled", "    Some(tenths(square(dx) + square(dy)))", "    Some((crate::touchcal::isqrt_of((square(dx) + square(dy)) as u64) * 10 / 16) as u32)"),
 ];
 
 pub fn all(text: &dyn Fn(&str, &str) -> String) -> Vec<Mutant> {

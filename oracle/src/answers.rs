@@ -3,6 +3,7 @@
 use crate::gesture::{self, Axis, Gesture, Tracker};
 use crate::image;
 use crate::numbers::{unfolded, Reader, Stop};
+use crate::tenths::{self, Measured};
 use crate::touch::{self, Event, Point};
 use crate::touchcal::{self, Bad, Cal};
 use crate::trace::{on_panel, report_ok};
@@ -212,23 +213,23 @@ impl Side {
                 let root = tried(|| touchcal::isqrt_of(v)).unwrap_or(4_294_967_295);
                 self.line(0, &root.to_string());
             }
-            13 => {
+            13 | 43 => {
                 let (ax, ay, bx, by) = (signed32(r)?, signed32(r)?, signed32(r)?, signed32(r)?);
                 self.calls += 1;
-                match tried(|| touchcal::dist10_of(ax, ay, bx, by)) {
+                let told = if kind == 13 { tenths::dist10(ax, ay, bx, by) } else { old_dist10(ax, ay, bx, by) };
+                match told {
+                    None => self.line(WIDE, ""),
                     Some(t) => self.line(0, &t.to_string()),
-                    None if ax.checked_sub(bx).is_none() || ay.checked_sub(by).is_none() => self.line(WIDE, ""),
-                    // the sum of 2^63, past the Rust's i64: its root is 3,037,000,499
-                    None => self.line(0, &(3_037_000_499u64 * 10 / 16).to_string()),
                 }
             }
-            14 => {
+            14 | 44 => {
                 let (c, raw, tgt) = (cal(r)?, taps(r)?, taps(r)?);
                 self.calls += 1;
                 if raw.len().min(tgt.len()) > LIST_MOST {
                     self.line(LONG, "");
                 } else {
-                    match tried(|| touchcal::resid(&c, &raw, &tgt)) {
+                    let told = if kind == 14 { tenths::resid(&c, &raw, &tgt) } else { tried(|| touchcal::resid(&c, &raw, &tgt)) };
+                    match told {
                         None => self.line(WIDE, ""),
                         Some((mean, max)) => self.line(0, &format!("{mean} {max}")),
                     }
@@ -266,10 +267,10 @@ impl Side {
                     Some(c) => self.line(0, &joined(&c)),
                 }
             }
-            19 => {
+            19 | 49 => {
                 let (raw, tgt, targets) = (taps(r)?, taps(r)?, targets(r)?);
                 self.calls += 1;
-                match fit(&raw, &tgt, &targets) {
+                match fit(kind == 49, &raw, &tgt, &targets) {
                     Err(why) => self.line(why, ""),
                     Ok(v) => self.line(0, &v),
                 }
@@ -403,7 +404,7 @@ fn targets(r: &mut Reader) -> Result<Vec<(u16, u16)>, Stop> {
     (0..r.next(MOST_8)?).map(|_| Ok((r.next(MOST_16)? as u16, r.next(MOST_16)? as u16))).collect()
 }
 
-fn apply16(c: &Cal, x: i32, y: i32) -> Option<(i32, i32)> {
+pub fn apply16(c: &Cal, x: i32, y: i32) -> Option<(i32, i32)> {
     let narrow = |v: i32| i16::try_from(v).is_ok();
     if !narrow(x) || !narrow(y) {
         return None;
@@ -411,8 +412,18 @@ fn apply16(c: &Cal, x: i32, y: i32) -> Option<(i32, i32)> {
     tried(|| touchcal::apply16(c, x, y))
 }
 
+/// By the tenths that the Rust has. Where it panics a difference leaves i32, or the sum is 2^63, past its i64: the root of
+/// that is 3,037,000,499.
+fn old_dist10(ax: i32, ay: i32, bx: i32, by: i32) -> Option<u32> {
+    match tried(|| touchcal::dist10_of(ax, ay, bx, by)) {
+        Some(t) => Some(t),
+        None if ax.checked_sub(bx).is_none() || ay.checked_sub(by).is_none() => None,
+        None => Some((3_037_000_499u64 * 10 / 16) as u32),
+    }
+}
+
 /// Where the Rust's check panics: the most negative number in the four is Scale, a sum past i32 is Shift.
-fn check(c: &Cal, targets: &[(u16, u16)]) -> Option<Bad> {
+pub fn check(c: &Cal, targets: &[(u16, u16)]) -> Option<Bad> {
     match tried(|| touchcal::check(c, targets)) {
         Some(r) => r.err(),
         None if [0, 1, 3, 4].iter().any(|&i| c[i] == i32::MIN) => Some(Bad::Scale),
@@ -430,17 +441,20 @@ fn verdict(b: Option<Bad>) -> &'static str {
     }
 }
 
-fn fit(raw: &[(i16, i16)], tgt: &[(i16, i16)], targets: &[(u16, u16)]) -> Result<String, u8> {
+/// The Rust's fit, with its own numbers or measured by the tenths of request [6].
+fn fit(old: bool, raw: &[(i16, i16)], tgt: &[(i16, i16)], targets: &[(u16, u16)]) -> Result<String, u8> {
     if raw.len().min(tgt.len()) > LIST_MOST || targets.len() > LIST_MOST {
         return Err(LONG);
     }
     if !targets.iter().all(|&(x, y)| on_panel(Point { x, y })) {
         return Err(TARGET);
     }
-    match tried(|| touchcal::fit(raw, tgt, targets)) {
-        Some(None) => Err(NOFIT),
-        Some(Some(f)) => Ok(format!("{} {} {} {} {}", joined(&f.cal), f.mean, f.max, f.before, verdict(f.bad))),
-        // it panicked in resid: what passes its check's scales is too small for the check's sums to leave i32
-        None => Err(WIDE),
-    }
+    // where it panics it does so in resid: what passes its check's scales is too small for the check's sums to leave i32
+    let f = tried(|| touchcal::fit(raw, tgt, targets)).ok_or(WIDE)?.ok_or(NOFIT)?;
+    let m = if old {
+        Measured { mean: f.mean, max: f.max, before: f.before, bad: f.bad }
+    } else {
+        tenths::measured(&f.cal, raw, tgt, targets).expect("a fit that the Rust measured")
+    };
+    Ok(format!("{} {} {} {} {}", joined(&f.cal), m.mean, m.max, m.before, verdict(m.bad)))
 }

@@ -31,11 +31,16 @@ fn written(label: &str) -> Option<Call> {
         "centroid" => plain(3),
         "lock_axis" => [vec![4], signed(&numbers)].concat(),
         "check" => [vec![15], signed(&[0, 0, numbers[0], 0, 0, 0]), vec![1, 0, 0]].concat(),
-        "dist10" => [vec![13], signed(&[numbers[0], 0, 0, 0])].concat(),
+        "dist10" => [vec![13], signed(&[numbers[0], numbers[1], 0, 0])].concat(),
         "fit" => {
-            let by = numbers[0];
             let corners = |by: i64| signed(&[by, 0, 100 + by, 0, by, 100, 100 + by, 100]);
-            [vec![19, 4], corners(0), vec![4], corners(by), vec![1, 240, 160]].concat()
+            let onto = match numbers[..] {
+                [by] => corners(by),
+                // two of them, opposite ones
+                [x, y] => signed(&[x, y, 100, 0, 0, 100, 100 + x, 100 + y]),
+                _ => return None,
+            };
+            [vec![19, 4], corners(0), vec![4], onto, vec![1, 240, 160]].concat()
         }
         _ => return None,
     })

@@ -2,10 +2,11 @@
 //! history on a fresh tracker with nothing pending, its calls apart by semicolons; what follows # says what it tells.
 //! A call is the probe's numbers, kind first. A number with a sign is a signed one; one that begins with 0x is a float's
 //! pattern; V*N is V so many times; what a report or a centroid leaves out at its end is zero. `alter K V ..` loads the
-//! image of the tracker as it stands with the bytes at K altered to V.
+//! image of the tracker as it stands with the bytes at K altered to V. A call that is told in tenths is made by the old
+//! tenths too.
 use crate::answers::Side;
 use crate::image;
-use crate::inputs::{bytes_of, load, Call};
+use crate::inputs::{by_old_tenths, bytes_of, load, Call};
 use crate::numbers::{folded, unfolded};
 
 const TEXT: &str = include_str!("chosen.txt");
@@ -61,8 +62,10 @@ pub fn histories() -> Vec<Call> {
         made.iter().for_each(|c| side.make(&bytes_of(std::slice::from_ref(c))));
         for part in line.split(';').map(str::trim).filter(|p| !p.is_empty()) {
             let c = part.strip_prefix("alter ").map_or_else(|| call(part), |p| altered(&side, p));
-            side.make(&bytes_of(std::slice::from_ref(&c)));
-            made.push(c);
+            for c in by_old_tenths(&c).into_iter().chain([c]) {
+                side.make(&bytes_of(std::slice::from_ref(&c)));
+                made.push(c);
+            }
         }
         all.extend(made);
     }
@@ -74,13 +77,13 @@ pub fn histories() -> Vec<Call> {
 fn forms(kind: u64) -> &'static str {
     match kind {
         4 => "ss",
-        10 | 13 => "ssssssss",
+        10 | 13 | 43 => "ssssssss",
         11 | 15 => "ssssssu",
         17 => "ssssss",
-        14 => "sssssst",
+        14 | 44 => "sssssst",
         16 => "f",
         18 | 20 => "f",
-        19 => "t",
+        19 | 49 => "t",
         _ => "u",
     }
 }

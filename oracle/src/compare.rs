@@ -1,7 +1,7 @@
 //! Both sides on the same inputs, line by line; and, where they differ, the smallest input that shows it.
 use crate::answers::Side;
 use crate::chosen::text_of;
-use crate::inputs::{any_load, bytes_of, damaged, plain, trace_of, Call, Dice, Hand};
+use crate::inputs::{any_load, by_old_tenths, bytes_of, damaged, plain, trace_of, Call, Dice, Hand};
 use crate::play::played;
 use std::io::Write;
 use std::process::{Command, Stdio};
@@ -33,7 +33,7 @@ impl Programs {
     }
 }
 
-/// The calls under 30, of which each gets as many as asked for.
+/// The calls under 30, of which each gets as many as asked for; those told in tenths are made by the old ones too.
 pub const PLAIN: [u64; 16] = [1, 2, 3, 4, 10, 11, 12, 13, 14, 15, 16, 17, 18, 19, 20, 21];
 /// The calls of a tracker, which come in histories.
 const TRACKER: u64 = 9;
@@ -160,8 +160,10 @@ fn batch(d: &mut Dice, left: &mut [u64], tracker: &mut u64) -> (Vec<Call>, Side)
             if left[k] > 0 {
                 left[k] -= 1;
                 let c = plain(d, PLAIN[k]);
-                side.make(&bytes_of(std::slice::from_ref(&c)));
-                calls.push(c);
+                for c in by_old_tenths(&c).into_iter().chain([c]) {
+                    side.make(&bytes_of(std::slice::from_ref(&c)));
+                    calls.push(c);
+                }
             }
         } else if *tracker > 0 {
             let n = (1 + d.under(17)).min(*tracker);
@@ -249,8 +251,8 @@ pub fn compared(p: &Programs, n: u64, seed: u64) -> Tally {
     t
 }
 
-/// Short inputs, all of them: traces of at most one byte behind the version, runs of one byte, the roots, the axes
-/// and the key masks.
+/// Short inputs, all of them: traces of at most one byte behind the version, runs of one byte, the roots, the axes,
+/// distances by both tenths, and the key masks.
 pub fn exhausted(p: &Programs) -> Tally {
     let mut t = Tally { calls: 0, records: 0, runs: 0 };
     play_held(p, &[], &mut t);
@@ -267,6 +269,10 @@ pub fn exhausted(p: &Programs) -> Tally {
     }
     let mut calls: Vec<Call> = (0..20_000).map(|v| vec![12, v]).collect();
     calls.extend((0..97 * 97).map(|k| vec![4, k / 97, k % 97]));
+    // short ones, and those around the limit of a fit
+    for (x, y) in (0..97 * 97).map(|k| (k / 97, k % 97)).chain((0..10 * 100).map(|k| (2 * (395 + k / 100), 2 * (k % 100)))) {
+        calls.extend([13, 43].map(|kind| vec![kind, x, y, 0, 0]));
+    }
     let input = bytes_of(&calls);
     t.calls += held(p, &input, &Side::new().run(&input), Some(&calls));
     // every told mask against every wanted one, and the tick after it

@@ -11,6 +11,7 @@ mod image;
 mod inputs;
 mod numbers;
 mod play;
+mod tenths;
 mod touch;
 mod touchcal;
 mod trace;

@@ -238,6 +238,17 @@ pub fn plain(d: &mut Dice, kind: u64) -> Call {
     c
 }
 
+/// The same call by the old tenths, if it is one that is told in tenths.
+pub fn by_old_tenths(c: &Call) -> Option<Call> {
+    let kind = match c[0] {
+        13 => 43,
+        14 => 44,
+        19 => 49,
+        _ => return None,
+    };
+    Some(std::iter::once(kind).chain(c[1..].iter().copied()).collect())
+}
+
 /// Fingers that go down, move, gather, lift; keys; a clock that mostly goes on.
 pub struct Hand {
     now: u64,

@@ -14,6 +14,7 @@ mod inputs;
 mod numbers;
 mod play;
 mod record;
+mod tenths;
 mod touch;
 mod touchcal;
 mod trace;

@@ -3,7 +3,7 @@
 use crate::answers::Side;
 use crate::chosen;
 use crate::compare::PLAIN;
-use crate::inputs::{any_load, bytes_of, plain, Call, Dice, Hand};
+use crate::inputs::{any_load, by_old_tenths, bytes_of, plain, Call, Dice, Hand};
 
 const OF_EACH: usize = 120;
 const HISTORIES: usize = 120;
@@ -29,7 +29,9 @@ pub fn calls(seed: u64) -> Vec<u8> {
         for _ in 0..OF_EACH {
             for kind in PLAIN {
                 let c = plain(&mut d, kind);
+                let old = by_old_tenths(&c);
                 make(c, &mut side);
+                old.into_iter().for_each(|c| make(c, &mut side));
             }
         }
         for _ in 0..HISTORIES {

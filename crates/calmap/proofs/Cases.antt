@@ -12,9 +12,9 @@ use Rattle.panel.specs.Tests.{if_then_else_, _and_}
 use Rattle.panel.specs.declared.points.Point.{Point}
 use Rattle.panel.specs.declared.refusals.Refusal.the-variants as Refusal
 use Rattle.calmap.specs.Checks.{mild, scaleHolds, stays, allStay, verdictOf, checkOf}
-use Rattle.calmap.specs.Distances.{squared, tenthsOf, tenths, dist10Of}
+use Rattle.calmap.specs.Distances.{squared, gapOf, tenthsOf, tenths, dist10Of}
 use Rattle.calmap.specs.Maps.{line, lineFits, sixteenths, applyOf}
-use Rattle.calmap.specs.Resids.{pairsOf, missOf, missesOf, largest, spread, residOf}
+use Rattle.calmap.specs.Resids.{pairsOf, missOf, missesOf, largest, spread, residBy, residOf}
 use Rattle.calmap.specs.Roots.{digit, rootBy, rootOf}
 use Rattle.calmap.specs.Screening.{nudge, nudgeFits, moved, screenOf}
 use Rattle.calmap.specs.Wide.{in32, in16, down}
@@ -53,30 +53,43 @@ unfolding rootOf rootBy digit if_then_else_
 root-of-largest = refl
 
 -- A sum of 2^63 is answered.
-sum-past-i64 : dist10Of (sixteenths (negsuc 2147483647)) (sixteenths (negsuc 2147483647)) (sixteenths (pos 0)) (sixteenths (pos 0)) ≡ Dist10.Answered (tenths 1898125311)
-unfolding dist10Of if_then_else_ _and_ in32 squared tenthsOf rootOf rootBy digit
+sum-past-i64 : dist10Of (sixteenths (negsuc 2147483647)) (sixteenths (negsuc 2147483647)) (sixteenths (pos 0)) (sixteenths (pos 0)) ≡ Dist10.Answered (tenths 1898125312)
+unfolding gapOf if_then_else_ _and_ in32 squared tenthsOf rootBy digit
 sum-past-i64 = refl
 
--- "A root of 401 is 250 tenths, 402 is 251."
+-- "A root of 401 is 250 tenths, 402 is 251." "Squared distance 13 gave 1 and now gives 2."
 tenths-of-401 : tenthsOf (401 * 401) ≡ 250
-unfolding tenthsOf rootOf rootBy digit if_then_else_
+unfolding tenthsOf rootBy digit if_then_else_
 tenths-of-401 = refl
 
 tenths-of-402 : tenthsOf (402 * 402) ≡ 251
-unfolding tenthsOf rootOf rootBy digit if_then_else_
+unfolding tenthsOf rootBy digit if_then_else_
 tenths-of-402 = refl
+
+tenths-of-13 : tenthsOf 13 ≡ 2
+unfolding tenthsOf rootBy digit if_then_else_
+tenths-of-13 = refl
+
+-- 25·161283 is the first past 64·251·251: from there on a largest miss is over the limit of a fit.
+tenths-at-the-limit : tenthsOf 161282 ≡ 250
+unfolding tenthsOf rootBy digit if_then_else_
+tenths-at-the-limit = refl
+
+tenths-over-the-limit : tenthsOf 161283 ≡ 251
+unfolding tenthsOf rootBy digit if_then_else_
+tenths-over-the-limit = refl
 
 -- Pairs in use are as many as the shorter list has: 65 raw taps and one target are one pair.
 abbrev origin : Tap
 origin = record { x = pos 0; y = pos 0 }
 
 one-pair : residOf (cal (pos 0) (pos 0) (pos 65536)) (pairsOf (replicate 65 origin) (origin ∷ [])) ≡ Resid.Answered (spread 10 10)
-unfolding residOf pairsOf missesOf missOf mean total largest applyOf if_then_else_ _and_ in16 in32 lineFits line down dist10Of squared tenthsOf rootOf rootBy digit
+unfolding residBy pairsOf missesOf missOf mean total largest applyOf if_then_else_ _and_ in16 in32 lineFits line down gapOf squared tenthsOf rootBy digit
 one-pair = refl
 
 -- and 65 of both are LONG, also where the first one is WIDE.
 long-before-wide : residOf (cal (pos 0) (pos 0) (pos 2147483647)) (pairsOf (replicate 65 (record { x = pos 1; y = pos 0 })) (replicate 65 origin)) ≡ Resid.Refused Refusal.Long
-unfolding residOf pairsOf if_then_else_
+unfolding residBy pairsOf if_then_else_
 long-before-wide = refl
 
 -- 65 targets off the panel are LONG, one is TARGET, whatever the calibration.

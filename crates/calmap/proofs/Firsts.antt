@@ -12,7 +12,8 @@ use Rattle.panel.specs.Tests.{if_then_else_, _<?_}
 use Rattle.panel.specs.declared.points.Point.{Point}
 use Rattle.panel.specs.declared.refusals.Refusal.the-variants as Refusal
 use Rattle.calmap.specs.Checks.{verdictOf, checkOf, checkFirst}
-use Rattle.calmap.specs.Resids.{missesOf, spreadOf, residOf, residFirst}
+use Rattle.calmap.specs.Distances.{Rule}
+use Rattle.calmap.specs.Resids.{missesOf, spreadBy, residBy, residFirstBy}
 use Rattle.calmap.specs.Sizes.{longest}
 use Rattle.calmap.specs.declared.limits.CheckAnswer.the-variants as Check
 use Rattle.calmap.specs.declared.residuals.ResidAnswer.the-variants as Resid
@@ -22,17 +23,17 @@ use Rattle.calmap.specs.declared.units.Pair.{Pair}
 not-long : {A : Type 0} (n : ℕ) (xs : List A) → n ≤ longest → (longest <? length (take n xs)) ≡ false
 not-long n xs h = le-ltb longest (length (take n xs)) (rw length-take (omega arith))
 
-module _ (c : Cal) (n : ℕ) (ps : List Pair) where
-  pub resid-long : longest < n → residFirst c n ps ≡ Resid.Refused Refusal.Long
-  unfolding residFirst
+module _ (rule : Rule) (c : Cal) (n : ℕ) (ps : List Pair) where
+  pub resid-long : longest < n → residFirstBy rule c n ps ≡ Resid.Refused Refusal.Long
+  unfolding residFirstBy
   resid-long h = if-true _ _ _ (lt-ltb _ _ h)
 
-  pub resid-taken : n ≤ longest → residFirst c n ps ≡ residOf c (take n ps)
-  unfolding residFirst
+  pub resid-taken : n ≤ longest → residFirstBy rule c n ps ≡ residBy rule c (take n ps)
+  unfolding residFirstBy
   resid-taken h = if-false _ _ _ (le-ltb _ _ h)
 
-  pub resid-first : n ≤ longest → residFirst c n ps ≡ spreadOf (missesOf c (take n ps))
-  unfolding residFirst residOf
+  pub resid-first : n ≤ longest → residFirstBy rule c n ps ≡ spreadBy rule (missesOf c (take n ps))
+  unfolding residFirstBy residBy
   resid-first h = if-false _ _ _ (le-ltb _ _ h) ∙ if-false _ _ _ (not-long n ps h)
 
 module _ (c : Cal) (n : ℕ) (ps : List Point) where

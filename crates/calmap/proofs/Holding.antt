@@ -14,7 +14,7 @@ use Rattle.panel.specs.Tests.{_and_, _<?_}
 use Rattle.panel.specs.declared.points.Point.{Point}
 use Rattle.calmap.specs.Checks.{checkOf, checkFirst}
 use Rattle.calmap.specs.Held.{filled, tap0, point0, heldTaps, heldPoints, heldPairs, pairUp, putTap, putPoint, residHeld, checkHeld}
-use Rattle.calmap.specs.Resids.{pairsOf, residOf, residFirst}
+use Rattle.calmap.specs.Resids.{pairsOf, residOf, residBy, residFirstBy}
 use Rattle.calmap.specs.Sizes.{longest}
 use Rattle.calmap.specs.declared.units.Cal.{Cal}
 use Rattle.calmap.specs.declared.units.Pair.{Pair}
@@ -177,11 +177,11 @@ module _ (raw tgt : List Tap) where
 
 module _ (c : Cal) (raw tgt : List Tap) where
   held-long : longest < length (pairsOf raw tgt) → residHeld c (heldPairs raw tgt) ≡ residOf c (pairsOf raw tgt)
-  unfolding residHeld residOf
+  unfolding residHeld residBy
   held-long h = if-true _ _ _ (pairs-long raw tgt ∙ lt-ltb _ _ h) ∙ sym (if-true _ _ _ (lt-ltb _ _ h))
 
   held-short : length (pairsOf raw tgt) ≤ longest → residHeld c (heldPairs raw tgt) ≡ residOf c (pairsOf raw tgt)
-  unfolding residHeld residFirst
+  unfolding residHeld residFirstBy
   held-short h =
       if-false _ _ _ (pairs-long raw tgt ∙ le-ltb _ _ h)
       ∙ if-false _ _ _ (ap (λ (k : ℕ). longest <? k) (pairs-count raw tgt h) ∙ le-ltb _ _ h) ∙ ap (residOf c) (pairs-all raw tgt h)

@@ -1,16 +1,16 @@
 -- The laws that callers cite in place of the definitions' text: the root is the largest whose square is at most v; the
--- shift rounds toward minus infinity; what `screen` adds up is always in i32; where a point lands, and how far tenths
--- reach. Assumes nothing.
-use Prim.Native.Nat.{ℕ, _+_, _*_, _/_, _^_, _≤_, _<_}
+-- tenths are the largest t with (16t) squared at most 100 times d2; the shift rounds toward minus infinity; what `screen`
+-- adds up is always in i32; where a point lands. Assumes nothing.
+use Prim.Native.Nat.{ℕ, _+_, _*_, _^_, _≤_, _<_}
 use mathlib.Core.Path.{_≡_}
 use mathlib.Core.Bool.{true}
 use lib.IntN.{ℤ, pos, _+ℤ_, _*ℤ_}
 use lib.Signed.{_≤ℤ_, _<ℤ_}
 use borrow.Author.Tests.{ltb-true}
-use Rattle.calmap.specs.Distances.{tenthsOf}
+use Rattle.calmap.specs.Distances.{square, tenthsOf}
 use Rattle.calmap.specs.Maps.{applyOf}
 use Rattle.calmap.specs.Roots.{rootOf}
-use Rattle.calmap.specs.Sizes.{sixteen, tenthsIn, sixteenthsIn}
+use Rattle.calmap.specs.Sizes.{sixteen, sixteenthsIn, hundred}
 use Rattle.calmap.specs.Wide.{in32, down}
 use Rattle.calmap.specs.declared.mapping.ApplyAnswer.the-variants.{Answered}
 use Rattle.calmap.specs.declared.mapping.Spot.{Spot}
@@ -19,6 +19,7 @@ use Rattle.calmap.proofs.Bounds as Bounds
 use Rattle.calmap.proofs.Floors as Floors
 use Rattle.calmap.proofs.Rooted as Rooted
 use Rattle.calmap.proofs.Signed.{in32-yes}
+use Rattle.calmap.proofs.Tenths as Tenths
 
 -- The root.
 
@@ -36,9 +37,26 @@ module _ (v : ℕ) (h : v < 2 ^ 64) where
   pub root-at-most : (r : ℕ) → v ≤ r * r → rootOf v ≤ r
   root-at-most r l = Rooted.root-at-most v h r l
 
-  -- and the tenths are at most the side's
-  pub tenths-at-most : (r : ℕ) → v ≤ r * r → tenthsOf v ≤ r * tenthsIn / sixteenthsIn
-  tenths-at-most r l = Bounds.tenths-at-most v r h l
+  pub root-fits : rootOf v < 2 ^ 32
+  root-fits = Rooted.root-below-end v h
+
+-- The tenths.
+
+module _ (d2 : ℕ) (h : d2 < 2 ^ 64) where
+  pub tenths-below : square (sixteenthsIn * tenthsOf d2) ≤ hundred * d2
+  tenths-below = Tenths.tenths-are d2 h .below
+
+  pub tenths-above : hundred * d2 < square (sixteenthsIn * (tenthsOf d2 + 1))
+  tenths-above = Tenths.tenths-are d2 h .above
+
+  pub tenths-only : (t : ℕ) → square (sixteenthsIn * t) ≤ hundred * d2 → hundred * d2 < square (sixteenthsIn * (t + 1)) → t ≡ tenthsOf d2
+  tenths-only t lo hi = Tenths.one-tenths {d2 = d2} (record { below = lo; above = hi }) (Tenths.tenths-are d2 h)
+
+  pub tenths-at-least : (t : ℕ) → square (sixteenthsIn * t) ≤ hundred * d2 → t ≤ tenthsOf d2
+  tenths-at-least t lo = Tenths.tenths-at-least d2 h t lo
+
+  pub tenths-at-most : (t : ℕ) → hundred * d2 < square (sixteenthsIn * (t + 1)) → tenthsOf d2 ≤ t
+  tenths-at-most t over = Tenths.tenths-at-most d2 h t over
 
 -- The shift: with m for 2 ^ places and q for what is left, m·q ≤ z < m·(q + 1).
 

@@ -1,8 +1,8 @@
 -- The public calls in document 01's numbers: what each tells for every input, and that its contract leaves no second
 -- answer. Assumes nothing.
-use Prim.Native.Nat.{ℕ, _-_, _^_, _<_}
+use Prim.Native.Nat.{ℕ, _-_, _^_, _<_, max}
 use mathlib.Core.Path.{_≡_, refl, ap, _∙_}
-use mathlib.Core.List.{List}
+use mathlib.Core.List.{List, map}
 use lib.IntN.{ℤ, pos, _-ℤ_}
 use lib.ListN.{length, take}
 use Rattle.panel.proofs.Follow.{if-of}
@@ -14,15 +14,16 @@ use Rattle.panel.specs.Sizes.{width, height}
 use Rattle.panel.specs.Tests.{if_then_else_, _and_, _<?_}
 use Rattle.panel.specs.declared.points.Point.{Point}
 use Rattle.calmap.specs.Checks.{none, judged, scaleHolds, allStay, verdictOf, checkOf, checkFirst, toldCheck}
-use Rattle.calmap.specs.Distances.{squared, tenths, tenthsOf, dist10Of, toldDist10}
+use Rattle.calmap.specs.Distances.{squared, gapOf, IsTenths, tenthsOf, tenths, inTenths, dist10Of, toldDist10}
 use Rattle.calmap.specs.Held.{heldPoints, heldPairs, residHeld, checkHeld}
 use Rattle.calmap.specs.Maps.{line, lineFits, spot, applyOf, toldApply}
-use Rattle.calmap.specs.Resids.{Misses, pairsOf, known, wide, missesOf, largest, spread, spreadOf, residOf, residFirst, toldResid}
+use Rattle.calmap.specs.Resids.{Misses, pairsOf, known, wide, missOf, missesOf, largest, spread, spreadBy, residOf, residBy, residFirst, residFirstBy, toldResid}
 use Rattle.calmap.specs.Roots.{IsRoot, rootOf}
 use Rattle.calmap.specs.Screening.{nudge, nudgeFits, moved, screenOf, toldScreen}
 use Rattle.calmap.specs.Sizes.{longest, twelve}
 use Rattle.calmap.specs.Wide.{in32, in16, down}
 use Rattle.calmap.specs.declared.gaps.Dist10Answer.{Dist10Answer}
+use Rattle.calmap.specs.declared.gaps.Gap.{Gap}
 use Rattle.calmap.specs.declared.held.Pairs.{Pairs}
 use Rattle.calmap.specs.declared.held.Points.{Points}
 use Rattle.calmap.specs.declared.limits.CheckAnswer.{CheckAnswer}
@@ -36,6 +37,7 @@ use Rattle.calmap.specs.declared.units.Pair.{Pair}
 use Rattle.calmap.specs.declared.units.Sixteenths.{Sixteenths}
 use Rattle.calmap.specs.declared.units.Tap.{Tap}
 use Rattle.calmap.proofs.Rooted.{root-is}
+use Rattle.calmap.proofs.Tenths.{tenths-are}
 
 abbrev tells : {A : Type 0} → ℕ → A → Told A
 tells n a = record { number = n; value = a }
@@ -63,25 +65,30 @@ isqrt-tells v h = root-is v h
 -- WIDE exactly if a coordinate difference leaves i32.
 pub dist10-tells : (ax ay bx by : Sixteenths) → toldDist10 (dist10Of ax ay bx by)
     ≡ if_then_else_ (_and_ (in32 (ax .0 -ℤ bx .0)) (in32 (ay .0 -ℤ by .0))) (tells 0 (tenths (tenthsOf (squared (ax .0 -ℤ bx .0) (ay .0 -ℤ by .0))))) (tells 3 (tenths 0))
-unfolding dist10Of
-dist10-tells ax ay bx by = if-of toldDist10 _ _ _
+unfolding gapOf
+dist10-tells ax ay bx by = if-of (λ g. toldDist10 (inTenths tenthsOf g)) _ _ _
+
+-- The tenths that it tells are the largest t with (16t) squared at most 100 times the squared distance, for every squared
+-- distance of 64 bits; of two numbers in i32 it is at most 2^63.
+pub tenths-tell : (d2 : ℕ) → d2 < 2 ^ 64 → IsTenths (tenthsOf d2) d2
+tenths-tell d2 h = tenths-are d2 h
 
 -- LONG, number 4, exactly for more than 64 pairs; else WIDE exactly if a tap has no distance; else mean and largest.
 abbrev toldMisses : Misses → Told Spread
-toldMisses (known ds) = tells 0 (spread (mean ds) (largest ds))
+toldMisses (known ds) = tells 0 (spread (mean (map tenthsOf ds)) (largest (map tenthsOf ds)))
 toldMisses wide = tells 3 (spread 0 0)
 
-spread-told : (ms : Misses) → toldResid (spreadOf ms) ≡ toldMisses ms
+spread-told : (ms : Misses) → toldResid (spreadBy tenthsOf ms) ≡ toldMisses ms
 spread-told (known ds) = refl
 spread-told wide = refl
 
 pub resid-tells : (c : Cal) (ps : List Pair) → toldResid (residOf c ps) ≡ if_then_else_ (longest <? length ps) (tells 4 (spread 0 0)) (toldMisses (missesOf c ps))
-unfolding residOf
+unfolding residBy
 resid-tells c ps = if-of toldResid _ _ _ ∙ ap (if_then_else_ (longest <? length ps) (tells 4 (spread 0 0))) (spread-told (missesOf c ps))
 
 -- The same over the first n of an array of 64.
 pub resid-of-tells : (c : Cal) (n : ℕ) (ps : List Pair) → toldResid (residFirst c n ps) ≡ if_then_else_ (longest <? n) (tells 4 (spread 0 0)) (toldResid (residOf c (take n ps)))
-unfolding residFirst
+unfolding residFirstBy
 resid-of-tells c n ps = if-of toldResid _ _ _
 
 -- LONG, number 4, exactly for more than 64 targets; else TARGET, number 5, exactly for one off the panel; else the verdict.
@@ -103,6 +110,12 @@ check-of-tells c n ps = if-of toldCheck _ _ _
 pub isqrt-unique : (v : ℕ) {r s : ℕ} → r ≡ rootOf v → s ≡ rootOf v → r ≡ s
 isqrt-unique v = one-answer
 
+pub gap-unique : (ax ay bx by : Sixteenths) {r s : Gap} → r ≡ gapOf ax ay bx by → s ≡ gapOf ax ay bx by → r ≡ s
+gap-unique ax ay bx by = one-answer
+
+pub larger-unique : (a b : ℕ) {r s : ℕ} → r ≡ max a b → s ≡ max a b → r ≡ s
+larger-unique a b = one-answer
+
 pub dist10-unique : (ax ay bx by : Sixteenths) {r s : Dist10Answer} → r ≡ dist10Of ax ay bx by → s ≡ dist10Of ax ay bx by → r ≡ s
 dist10-unique ax ay bx by = one-answer
 
@@ -112,6 +125,9 @@ module _ (c : Cal) where
 
   pub screen-unique : (p : Point) {r s : ScreenAnswer} → r ≡ screenOf c p → s ≡ screenOf c p → r ≡ s
   screen-unique p = one-answer
+
+  pub miss-unique : (p : Pair) {r s : Gap} → r ≡ missOf c p → s ≡ missOf c p → r ≡ s
+  miss-unique p = one-answer
 
   pub resid-of-unique : (n : ℕ) (ps : List Pair) {r s : ResidAnswer} → r ≡ residFirst c n ps → s ≡ residFirst c n ps → r ≡ s
   resid-of-unique n ps = one-answer

@@ -41,7 +41,7 @@ square-two q =
 doubled : (q : ℕ) → 2 * q + 2 ≡ 2 * (q + 1)
 doubled q = omega arith
 
-root-by : (n v : ℕ) → v < 4 ^ n → IsRoot (rootBy n v) v
+pub root-by : (n v : ℕ) → v < 4 ^ n → IsRoot (rootBy n v) v
 unfolding rootBy digit
 root-by zero v h = record { below = zero-le; above = h }
 root-by (suc n) v h =

@@ -1,25 +1,23 @@
--- The code's own steps, which hold no rule of document 01: numbers that are in i32 or none, and what is made of them;
--- distances added up. proofs/Chains.antt, proofs/Slight.antt and proofs/Tallying.antt have that they end where specs/Maps.antt,
--- Screening.antt, Distances.antt and Resids.antt say.
-use Prim.Native.Nat.{ℕ, _+_, _-_, max}
+-- The code's own steps, which hold no rule of document 01: numbers that are in i32 or none, and what is made of them; how
+-- large a distance can be. proofs/Chains.antt, proofs/Slight.antt and proofs/Bounds.antt have that they end where
+-- specs/Maps.antt, Screening.antt, Distances.antt and Resids.antt say.
+use Prim.Native.Nat.{ℕ, _-_}
 use mathlib.Core.Bool.{Bool}
 use lib.IntN.{ℤ, _+ℤ_}
 use lib.Signed.{mag}
-use Rattle.panel.specs.Centroids.{total}
 use Rattle.panel.specs.Sizes.{width, height}
 use Rattle.panel.specs.Tests.{if_then_else_, _and_, _<?_}
 use Rattle.panel.specs.declared.points.Point.{Point}
 use Rattle.panel.specs.declared.refusals.Refusal.the-variants as Refusal
 use Rattle.calmap.specs.Maps.{line, lineFits, spot}
-use Rattle.calmap.specs.Resids.{Misses, known, wide, largest}
 use Rattle.calmap.specs.Screening.{nudge, nudgeFits, moved}
 use Rattle.calmap.specs.Sizes.{twelve}
 use Rattle.calmap.specs.Wide.{in32, in16, down}
 use Rattle.calmap.specs.declared.checked.Narrow.{Narrow}
 use Rattle.calmap.specs.declared.checked.Narrow.the-variants.{In, Wide}
+use Rattle.calmap.specs.declared.gaps.Gap as gap
+use Rattle.calmap.specs.declared.gaps.Gap.the-variants as Gap
 use Rattle.calmap.specs.declared.mapping.Spot.{Spot}
-use Rattle.calmap.specs.declared.residuals.Tally.{Tally}
-use Rattle.calmap.specs.declared.residuals.Tally.the-variants as Tally
 use Rattle.calmap.specs.declared.screens.ScreenAnswer.{ScreenAnswer}
 use Rattle.calmap.specs.declared.screens.ScreenAnswer.the-variants as Screen
 use Rattle.calmap.specs.declared.units.Cal.{Cal}
@@ -73,12 +71,15 @@ placedOf p (In u) (In v) = Screen.Answered (record { x = moved (width - 1) (p .x
 placedOf p (In u) Wide = Screen.Refused Refusal.Wide
 placedOf p Wide b = Screen.Refused Refusal.Wide
 
--- The distance of a tap that lands within i32 from a target within i16 is at most this: the bound by which 64 of them
--- have a sum in u32.
+-- The squared distance of a tap that lands within i32 from a target within i16 is at most this, 2^42, and in tenths at
+-- most that: the bound by which 64 of them have a sum in u32.
 abbrev pub farthest : ℕ
-farthest = 1310720
+farthest = 4398046511104
 
--- a sum and a largest so far, and the distances still to come
-abbrev pub tallyOf : ℕ → ℕ → Misses → Tally
-tallyOf s m (known ds) = Tally.Sums (record { sum = s + total ds; most = max m (largest ds) })
-tallyOf s m wide = Tally.Wide
+abbrev pub farthestTenths : ℕ
+farthestTenths = 1310720
+
+-- a squared distance, 0 for none
+abbrev pub squareIn : gap.Gap → ℕ
+squareIn (Gap.Squared d2) = d2
+squareIn Gap.Wide = 0

@@ -1,17 +1,19 @@
 -- `dist10`.
 --
--- "`dist10`: isqrt of the squared distance, times 10, divided by 16, rounded down; WIDE if a coordinate difference leaves
--- i32; a sum of 2^63 (past the Rust's i64) is answered."
-use Prim.Native.Nat.{ℕ, _+_, _*_, _/_}
+-- "WIDE if a coordinate difference leaves i32; a sum of 2^63 (past the Rust's i64) is answered." Document 02, [6]: "The
+-- tenths become the largest t with (16t) squared at most 100 times the squared distance in sixteenths."
+use Prim.Native.Nat.{ℕ, _+_, _*_, _/_, _≤_, _<_}
 use lib.IntN.{ℤ, natAbs, _-ℤ_}
 use Rattle.panel.specs.Refusals.{Told, answered, refused}
 use Rattle.panel.specs.Tests.{if_then_else_, _and_}
-use Rattle.panel.specs.declared.refusals.Refusal.the-variants.{Wide}
-use Rattle.calmap.specs.Roots.{rootOf}
-use Rattle.calmap.specs.Sizes.{tenthsIn, sixteenthsIn}
+use Rattle.panel.specs.declared.refusals.Refusal.the-variants as Refusal
+use Rattle.calmap.specs.Roots.{rootBy}
+use Rattle.calmap.specs.Sizes.{sixteenthsIn, hundred}
 use Rattle.calmap.specs.Wide.{in32}
 use Rattle.calmap.specs.declared.gaps.Dist10Answer.{Dist10Answer}
 use Rattle.calmap.specs.declared.gaps.Dist10Answer.the-variants.{Answered, Refused}
+use Rattle.calmap.specs.declared.gaps.Gap.{Gap}
+use Rattle.calmap.specs.declared.gaps.Gap.the-variants.{Squared, Wide}
 use Rattle.calmap.specs.declared.units.Sixteenths.{Sixteenths}
 use Rattle.calmap.specs.declared.units.Tenths.{Tenths}
 
@@ -19,18 +21,43 @@ use Rattle.calmap.specs.declared.units.Tenths.{Tenths}
 unfoldable pub squared : ℤ → ℤ → ℕ
 squared dx dy = natAbs dx * natAbs dx + natAbs dy * natAbs dy
 
--- of a squared distance in sixteenths
+-- from b to a, unless a coordinate difference leaves i32
+unfoldable pub gapOf : Sixteenths → Sixteenths → Sixteenths → Sixteenths → Gap
+gapOf ax ay bx by =
+    let dx = ax .0 -ℤ bx .0 in
+    let dy = ay .0 -ℤ by .0 in
+    if in32 dx and in32 dy then Squared (squared dx dy) else Wide
+
+abbrev pub square : ℕ → ℕ
+square n = n * n
+
+-- t is the largest with (16t) squared at most 100 times d2: that of the next one is over it. There is one such t, and
+-- `tenthsOf` is it for every d2 of 64 bits (`tenths-below`, `tenths-above`, `tenths-only` of proofs/Laws.antt).
+pub record IsTenths (t d2 : ℕ) : Type 0 where
+  pub below : square (sixteenthsIn * t) ≤ hundred * d2
+  pub above : hundred * d2 < square (sixteenthsIn * (t + 1))
+
+-- It, so that it computes: as often as 16 goes into the root of 100 times d2, which has 36 pairs of binary digits.
 unfoldable pub tenthsOf : ℕ → ℕ
-tenthsOf d2 = rootOf d2 * tenthsIn / sixteenthsIn
+tenthsOf d2 = rootBy 36 (hundred * d2) / sixteenthsIn
+
+-- A rule by which a squared distance in sixteenths is told in tenths. The calls go by `tenthsOf`; what is made of a rule
+-- is stated over any, so that the rule which this one came after is measured in the same way (crate oldtenths).
+abbrev pub Rule : Type 0
+Rule = ℕ → ℕ
 
 abbrev pub tenths : ℕ → Tenths
 tenths n = record { 0 = n }
 
-unfoldable pub dist10Of : Sixteenths → Sixteenths → Sixteenths → Sixteenths → Dist10Answer
-dist10Of ax ay bx by =
-    let dx = ax .0 -ℤ bx .0 in
-    let dy = ay .0 -ℤ by .0 in
-    if in32 dx and in32 dy then Answered (tenths (tenthsOf (squared dx dy))) else Refused Wide
+abbrev pub inTenths : Rule → Gap → Dist10Answer
+inTenths rule (Squared d2) = Answered (tenths (rule d2))
+inTenths rule Wide = Refused Refusal.Wide
+
+abbrev pub dist10By : Rule → Sixteenths → Sixteenths → Sixteenths → Sixteenths → Dist10Answer
+dist10By rule ax ay bx by = inTenths rule (gapOf ax ay bx by)
+
+abbrev pub dist10Of : Sixteenths → Sixteenths → Sixteenths → Sixteenths → Dist10Answer
+dist10Of = dist10By tenthsOf
 
 abbrev pub toldDist10 : Dist10Answer → Told Tenths
 toldDist10 (Answered t) = answered t

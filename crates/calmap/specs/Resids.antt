@@ -1,20 +1,20 @@
 -- `resid`.
 --
 -- "`resid`: mean (down) and max over the shorter length; (0,0) if none." "LONG: over 64 pairs in use". Order: "LONG, WIDE
--- in `resid`".
+-- in `resid`". The distances are told in tenths by the rule of `dist10`; a mean is that of tenths.
 use Prim.Native.Nat.{ℕ, max}
-use mathlib.Core.List.{List, [], _∷_}
+use mathlib.Core.List.{List, [], _∷_, map}
 use lib.IntN.{ℤ, pos, _*ℤ_}
 use lib.ListN.{length, take}
 use Rattle.panel.specs.Centroids.{mean}
 use Rattle.panel.specs.Refusals.{Told, answered, refused}
 use Rattle.panel.specs.Tests.{if_then_else_, _<?_}
-use Rattle.panel.specs.declared.refusals.Refusal.the-variants.{Wide, Long}
-use Rattle.calmap.specs.Distances.{dist10Of, tenths}
+use Rattle.panel.specs.declared.refusals.Refusal.the-variants as Refusal
+use Rattle.calmap.specs.Distances.{gapOf, Rule, tenthsOf, tenths}
 use Rattle.calmap.specs.Maps.{applyOf, sixteenths}
 use Rattle.calmap.specs.Sizes.{sixteenthsIn, longest}
-use Rattle.calmap.specs.declared.gaps.Dist10Answer.{Dist10Answer}
-use Rattle.calmap.specs.declared.gaps.Dist10Answer.the-variants as Dist10
+use Rattle.calmap.specs.declared.gaps.Gap.{Gap}
+use Rattle.calmap.specs.declared.gaps.Gap.the-variants.{Squared, Wide}
 use Rattle.calmap.specs.declared.mapping.ApplyAnswer.{ApplyAnswer}
 use Rattle.calmap.specs.declared.mapping.ApplyAnswer.the-variants as Apply
 use Rattle.calmap.specs.declared.residuals.ResidAnswer.{ResidAnswer}
@@ -36,22 +36,22 @@ abbrev pub inSixteenths : ℤ → Sixteenths
 inSixteenths v = sixteenths (v *ℤ pos sixteenthsIn)
 
 -- from where a tap lands to its target
-abbrev pub farOff : ApplyAnswer → Tap → Dist10Answer
-farOff (Apply.Answered s) t = dist10Of (s .0) (s .1) (inSixteenths (t .x)) (inSixteenths (t .y))
-farOff (Apply.Refused r) t = Dist10.Refused Wide
+abbrev pub farOff : ApplyAnswer → Tap → Gap
+farOff (Apply.Answered s) t = gapOf (s .0) (s .1) (inSixteenths (t .x)) (inSixteenths (t .y))
+farOff (Apply.Refused r) t = Wide
 
-unfoldable pub missOf : Cal → Pair → Dist10Answer
+unfoldable pub missOf : Cal → Pair → Gap
 missOf c p = farOff (applyOf c (p .raw .x) (p .raw .y)) (p .tgt)
 
--- the distances of some taps in tenths of a pixel, if all of them are answered
+-- the squared distances of some taps, if each has one
 pub data Misses : Type 0 where
   known : List ℕ → Misses
   wide : Misses
 
-abbrev pub besides : Dist10Answer → Misses → Misses
-besides (Dist10.Answered t) (known ds) = known (t .0 ∷ ds)
-besides (Dist10.Answered t) wide = wide
-besides (Dist10.Refused r) ms = wide
+abbrev pub besides : Gap → Misses → Misses
+besides (Squared d2) (known ds) = known (d2 ∷ ds)
+besides (Squared d2) wide = wide
+besides Wide ms = wide
 
 unfoldable pub missesOf : Cal → List Pair → Misses
 missesOf c [] = known []
@@ -65,16 +65,24 @@ largest (d ∷ ds) = max d (largest ds)
 abbrev pub spread : ℕ → ℕ → Spread
 spread m l = record { mean = tenths m; max = tenths l }
 
-abbrev pub spreadOf : Misses → ResidAnswer
-spreadOf (known ds) = Answered (spread (mean ds) (largest ds))
-spreadOf wide = Refused Wide
+-- by a rule of tenths
+abbrev pub spreadBy : Rule → Misses → ResidAnswer
+spreadBy rule (known ds) = Answered (spread (mean (map rule ds)) (largest (map rule ds)))
+spreadBy rule wide = Refused Refusal.Wide
 
-unfoldable pub residOf : Cal → List Pair → ResidAnswer
-residOf c ps = if longest <? length ps then Refused Long else spreadOf (missesOf c ps)
+unfoldable pub residBy : Rule → Cal → List Pair → ResidAnswer
+residBy rule c ps = if longest <? length ps then Refused Refusal.Long else spreadBy rule (missesOf c ps)
 
 -- the first n of an array that holds 64
-unfoldable pub residFirst : Cal → ℕ → List Pair → ResidAnswer
-residFirst c n ps = if longest <? n then Refused Long else residOf c (take n ps)
+unfoldable pub residFirstBy : Rule → Cal → ℕ → List Pair → ResidAnswer
+residFirstBy rule c n ps = if longest <? n then Refused Refusal.Long else residBy rule c (take n ps)
+
+-- by the rule of the calls
+abbrev pub residOf : Cal → List Pair → ResidAnswer
+residOf = residBy tenthsOf
+
+abbrev pub residFirst : Cal → ℕ → List Pair → ResidAnswer
+residFirst = residFirstBy tenthsOf
 
 abbrev pub toldResid : ResidAnswer → Told Spread
 toldResid (Answered s) = answered s

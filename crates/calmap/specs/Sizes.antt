@@ -1,4 +1,4 @@
--- The numbers of document 01 that the integer half of the calibration turns on, each written here and nowhere else.
+-- The numbers of documents 01 and 02 that the integer half of the calibration turns on, each written here and nowhere else.
 use Prim.Native.Nat.{ℕ}
 
 -- "leaves i32", "outside i16": how many there are below 0
@@ -23,12 +23,12 @@ half = 32768
 abbrev pub sixteen : ℕ
 sixteen = 16
 
--- "times 10, divided by 16": tenths and sixteenths in a pixel
-abbrev pub tenthsIn : ℕ
-tenthsIn = 10
-
+-- "(16t) squared at most 100 times the squared distance in sixteenths": the sixteenths in a pixel, and its tenths squared
 abbrev pub sixteenthsIn : ℕ
 sixteenthsIn = 16
+
+abbrev pub hundred : ℕ
+hundred = 100
 
 -- "over 64 pairs in use, or over 64 targets"
 abbrev pub longest : ℕ

@@ -14,7 +14,9 @@ mod screens;
 mod units;
 
 pub use gaps::Dist10Answer;
+pub use gaps::Gap;
 pub use gaps::dist10;
+pub use gaps::gap_between;
 pub use held::Pairs;
 pub use held::Points;
 pub use held::check_held;
@@ -31,6 +33,8 @@ pub use mapping::Spot;
 pub use mapping::apply16;
 pub use residuals::ResidAnswer;
 pub use residuals::Spread;
+pub use residuals::larger;
+pub use residuals::miss;
 pub use residuals::resid_of;
 pub use roots::isqrt;
 pub use screens::ScreenAnswer;

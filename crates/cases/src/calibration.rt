@@ -1,5 +1,5 @@
-// The calibration: where a correction is too large, roots on both sides of a tenth, and the fit of four
-// corners onto themselves, moved.
+// The calibration: where a correction is too large, distances on both sides of a tenth, and the fit of four corners onto
+// themselves, moved.
 use crate::print;
 use calmap::Cal;
 use calmap::CheckAnswer;
@@ -59,39 +59,53 @@ fn tenths(t: Tenths) {
     print::number(t.0 as u64);
 }
 
-// The distance along x of two places whose squared distance has this root.
-fn dist10(root: i32) {
-    print::word(b"dist10, root");
-    print::signed(root);
+// The distance of two places that are so far apart along x and along y.
+fn dist10(dx: i32, dy: i32) {
+    print::word(b"dist10, by");
+    print::signed(dx);
+    print::signed(dy);
     print::gives();
     let z = Sixteenths(0);
-    match calmap::dist10(Sixteenths(root), z, z, z) {
+    match calmap::dist10(Sixteenths(dx), Sixteenths(dy), z, z) {
         Dist10Answer::Answered(t) => tenths(t),
         Dist10Answer::Refused(r) => print::refusal(r),
     }
     print::end();
 }
 
-pub(crate) fn roots() {
-    dist10(401);
-    dist10(402);
+// The roots 401 and 402, exact ones; the squared distances 13 and 2^63.
+pub(crate) fn distances() {
+    dist10(401, 0);
+    dist10(402, 0);
+    dist10(2, 3);
+    dist10(-2147483648, -2147483648);
 }
 
-// A corner, and the same moved along x.
-fn corner(x: i16, y: i16, moved: i16) -> Pair {
+// A corner, and where it should have been.
+fn corner(x: i16, y: i16, u: i16, v: i16) -> Pair {
     Pair {
         raw: Tap { x, y },
-        tgt: Tap { x: moved, y },
+        tgt: Tap { x: u, y: v },
     }
 }
 
 // The corners from (0, 0) to (100, 100) onto themselves, moved along x to left and right.
 fn corners(left: i16, right: i16) -> [Pair; 64] {
-    let mut pairs = [corner(0, 0, 0); 64];
-    pairs[0] = corner(0, 0, left);
-    pairs[1] = corner(100, 0, right);
-    pairs[2] = corner(0, 100, left);
-    pairs[3] = corner(100, 100, right);
+    let mut pairs = [corner(0, 0, 0, 0); 64];
+    pairs[0] = corner(0, 0, left, 0);
+    pairs[1] = corner(100, 0, right, 0);
+    pairs[2] = corner(0, 100, left, 100);
+    pairs[3] = corner(100, 100, right, 100);
+    pairs
+}
+
+// The corners onto themselves, but for two that are opposite, moved by the same: the fit lies half way.
+fn two_corners(by: i16, down: i16, right: i16, below: i16) -> [Pair; 64] {
+    let mut pairs = [corner(0, 0, 0, 0); 64];
+    pairs[0] = corner(0, 0, by, down);
+    pairs[1] = corner(100, 0, 100, 0);
+    pairs[2] = corner(0, 100, 0, 100);
+    pairs[3] = corner(100, 100, right, below);
     pairs
 }
 
@@ -114,9 +128,7 @@ fn fitted(f: Fit) {
 }
 
 // The fit of these corners, held against one target.
-fn fit(by: u64, pairs: [Pair; 64]) {
-    print::word(b"fit, corners moved by");
-    print::number(by);
+fn fit(pairs: [Pair; 64]) {
     print::gives();
     let targets = [Point { x: 240, y: 160 }; 64];
     match touchcal::fit_of(pairs, 4, targets, 1) {
@@ -126,7 +138,22 @@ fn fit(by: u64, pairs: [Pair; 64]) {
     print::end();
 }
 
+fn moved(by: u64, pairs: [Pair; 64]) {
+    print::word(b"fit, corners moved by");
+    print::number(by);
+    fit(pairs);
+}
+
+fn two_moved(by: u64, down: u64, pairs: [Pair; 64]) {
+    print::word(b"fit, two corners moved by");
+    print::number(by);
+    print::number(down);
+    fit(pairs);
+}
+
 pub(crate) fn fits() {
-    fit(41, corners(41, 141));
-    fit(40, corners(40, 140));
+    moved(41, corners(41, 141));
+    moved(40, corners(40, 140));
+    two_moved(50, 4, two_corners(50, 4, 150, 104));
+    two_moved(50, 5, two_corners(50, 5, 150, 105));
 }

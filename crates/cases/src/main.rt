@@ -1,6 +1,6 @@
-// Runs the worked cases of document 01 on the proved functions and prints a line for each: the call,
+// Runs the worked cases of documents 01 and 02 on the proved functions and prints a line for each: the call,
 // its arguments, and what it answers. The file `stdout` beside src/ has what it must print, worked out
-// from the document and not from a run.
+// from the documents and not from a run.
 mod calibration;
 mod geometry;
 mod print;
@@ -12,7 +12,7 @@ fn main() {
     geometry::centroids();
     geometry::axes();
     calibration::checks();
-    calibration::roots();
+    calibration::distances();
     calibration::fits();
     tracker::trace();
     tracker::swipes();

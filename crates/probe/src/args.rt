@@ -47,11 +47,11 @@ fn first(kind: u64) -> usize {
 // Where they end. Those of a list are read by the calls that have one.
 fn until(kind: u64) -> usize {
     match kind {
-        1 | 2 | 13 => 4,
+        1 | 2 | 13 | 43 => 4,
         3 | 31 => 15,
         4 => 2,
         10 | 11 => 8,
-        14 | 15 | 17 | 18 | 20 => 6,
+        14 | 15 | 17 | 18 | 20 | 44 => 6,
         12 | 16 | 32 | 35 | 36 | 38 => 1,
         _ => 0,
     }
@@ -94,7 +94,7 @@ fn numbers(s: &[u8], kind: u64, c: Cursor) -> Args {
 // Behind the kind of a call, if there is such a kind.
 fn known(place: usize, kind: u64, next: usize) -> Cursor {
     match kind {
-        1..=4 | 10..=21 | 30..=38 => Cursor::At(next),
+        1..=4 | 10..=21 | 30..=38 | 43 | 44 | 49 => Cursor::At(next),
         _ => Cursor::Stop(Refusal::Kind, place),
     }
 }

@@ -1,5 +1,5 @@
-// The calls of the calibration, kinds 10 to 21. The lists of resid, check and fit go in by value, in the form
-// that the functions on lent lists hand them on in.
+// The calls of the calibration, kinds 10 to 21, and 43, 44 and 49, which are 13, 14 and 19 by the old tenths. The lists of
+// resid, check and fit go in by value, in the form that the functions on lent lists hand them on in.
 use crate::args;
 use crate::args::NUMBERS;
 use crate::lines;
@@ -12,12 +12,15 @@ use calmap::ApplyAnswer;
 use calmap::Cal;
 use calmap::CheckAnswer;
 use calmap::Dist10Answer;
+use calmap::MAX_TAPS;
+use calmap::Pair;
 use calmap::ResidAnswer;
 use calmap::ScreenAnswer;
 use calmap::Sixteenths;
 use calmap::Spot;
 use calmap::Spread;
 use calmap::Verdict;
+use panel::Point;
 use touchcal::CalAnswer;
 use touchcal::Fit;
 use touchcal::FitAnswer;
@@ -62,6 +65,13 @@ fn sixteenths(v: u64) -> Sixteenths {
     Sixteenths(args::signed32(v))
 }
 
+fn distant(r: Dist10Answer) -> Reply {
+    match r {
+        Dist10Answer::Answered(t) => lines::counted(t.0 as u64),
+        Dist10Answer::Refused(why) => lines::refused(why),
+    }
+}
+
 pub(crate) fn dist10(v: [u64; NUMBERS]) -> Reply {
     let r = calmap::dist10(
         sixteenths(v[0]),
@@ -69,10 +79,17 @@ pub(crate) fn dist10(v: [u64; NUMBERS]) -> Reply {
         sixteenths(v[2]),
         sixteenths(v[3]),
     );
-    match r {
-        Dist10Answer::Answered(t) => lines::counted(t.0 as u64),
-        Dist10Answer::Refused(why) => lines::refused(why),
-    }
+    distant(r)
+}
+
+pub(crate) fn old_dist10(v: [u64; NUMBERS]) -> Reply {
+    let r = oldtenths::old_dist10(
+        sixteenths(v[0]),
+        sixteenths(v[1]),
+        sixteenths(v[2]),
+        sixteenths(v[3]),
+    );
+    distant(r)
 }
 
 fn spread(s: Spread) -> Reply {
@@ -81,9 +98,16 @@ fn spread(s: Spread) -> Reply {
     lines::two(lines::number(mean.0 as u64), lines::number(max.0 as u64))
 }
 
-pub(crate) fn resid(v: [u64; NUMBERS], b: Beside) -> Reply {
+fn spread_by(kind: u64, c: Cal, list: [Pair; MAX_TAPS], n: usize) -> ResidAnswer {
+    match kind {
+        44 => oldtenths::old_resid_of(c, list, n),
+        _ => calmap::resid_of(c, list, n),
+    }
+}
+
+pub(crate) fn resid(kind: u64, v: [u64; NUMBERS], b: Beside) -> Reply {
     let list = b.list;
-    let r = calmap::resid_of(args::cal(v), list, b.n);
+    let r = spread_by(kind, args::cal(v), list, b.n);
     match r {
         ResidAnswer::Answered(s) => spread(s),
         ResidAnswer::Refused(why) => lines::refused(why),
@@ -190,10 +214,23 @@ fn fitted(f: Fit) -> Reply {
     lines::answered(said)
 }
 
-pub(crate) fn fit(b: Beside, t: Targets) -> Reply {
+fn fit_by(
+    kind: u64,
+    pairs: [Pair; MAX_TAPS],
+    n: usize,
+    targets: [Point; MAX_TAPS],
+    m: usize,
+) -> FitAnswer {
+    match kind {
+        49 => oldtenths::old_fit_of(pairs, n, targets, m),
+        _ => touchcal::fit_of(pairs, n, targets, m),
+    }
+}
+
+pub(crate) fn fit(kind: u64, b: Beside, t: Targets) -> Reply {
     let pairs = b.list;
     let targets = t.list;
-    let r = touchcal::fit_of(pairs, b.n, targets, t.n);
+    let r = fit_by(kind, pairs, b.n, targets, t.n);
     match r {
         FitAnswer::Answered(f) => fitted(f),
         FitAnswer::Refused(why) => lines::refused(why),

@@ -30,14 +30,15 @@ fn plain(kind: u64, v: [u64; NUMBERS]) -> Reply {
         16 => calibration::q16(v),
         17 => calibration::to_f32(v),
         18 => calibration::from_f32(v),
+        43 => calibration::old_dist10(v),
         _ => lines::answered(lines::silent()),
     }
 }
 
-fn resid(s: &[u8], v: [u64; NUMBERS], c: Cursor) -> Told {
+fn resid(s: &[u8], kind: u64, v: [u64; NUMBERS], c: Cursor) -> Told {
     let b = lists::beside_at(s, c);
     let to = b.to;
-    let reply = calibration::resid(v, b);
+    let reply = calibration::resid(kind, v, b);
     Told { reply, to }
 }
 
@@ -48,21 +49,21 @@ fn check(s: &[u8], v: [u64; NUMBERS], c: Cursor) -> Told {
     Told { reply, to }
 }
 
-fn fit(s: &[u8], c: Cursor) -> Told {
+fn fit(s: &[u8], kind: u64, c: Cursor) -> Told {
     let b = lists::beside_at(s, c);
     let cb = b.to;
     let t = lists::targets_at(s, cb);
     let to = t.to;
-    let reply = calibration::fit(b, t);
+    let reply = calibration::fit(kind, b, t);
     Told { reply, to }
 }
 
 // A call of another kind is read no further here.
 pub(crate) fn answered(s: &[u8], kind: u64, v: [u64; NUMBERS], c: Cursor) -> Told {
     match kind {
-        14 => resid(s, v, c),
+        14 | 44 => resid(s, kind, v, c),
         15 => check(s, v, c),
-        19 => fit(s, c),
+        19 | 49 => fit(s, kind, c),
         _ => {
             let reply = plain(kind, v);
             Told { reply, to: c }
@@ -72,8 +73,8 @@ pub(crate) fn answered(s: &[u8], kind: u64, v: [u64; NUMBERS], c: Cursor) -> Tol
 
 // The line of a call that was read to its end.
 pub(crate) fn line(out: &mut [u8], at: usize, i: u64, kind: u64, reply: Reply, a: Answer) -> usize {
-    if kind < 30 {
-        return lines::line(out, at, i, reply);
+    match kind {
+        30..=38 => tracker::line(out, at, i, kind, a),
+        _ => lines::line(out, at, i, reply),
     }
-    tracker::line(out, at, i, kind, a)
 }

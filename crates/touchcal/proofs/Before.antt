@@ -18,10 +18,9 @@ use Rattle.calmap.specs.Resids.{farOff, missOf, Misses, known, missesOf}
 use Rattle.calmap.specs.declared.units.Q16.{Q16}
 use Rattle.calmap.specs.declared.units.Tap.{Tap}
 use Rattle.calmap.specs.declared.units.Pair.{Pair}
-use Rattle.calmap.specs.declared.units.Tenths.{Tenths}
 use Rattle.calmap.specs.declared.mapping.Spot.{Spot}
 use Rattle.calmap.specs.declared.mapping.ApplyAnswer.the-variants as Apply
-use Rattle.calmap.specs.declared.gaps.Dist10Answer.the-variants as Dist10
+use Rattle.calmap.specs.declared.gaps.Gap.the-variants.{Squared}
 use Rattle.calmap.proofs.Bounds.{applied-size, miss-answered}
 use Rattle.touchcal.specs.Floats.{identity}
 
@@ -74,8 +73,8 @@ landed t h =
     record { spot = _; is = if-true _ _ _ both }
 
 record Missed (p : Pair) : Type 0 where
-  pub miss : Tenths
-  pub is : missOf identity p ≡ Dist10.Answered miss
+  pub miss : ℕ
+  pub is : missOf identity p ≡ Squared miss
 
 missed : (p : Pair) → Small (p .raw) → Small (p .tgt) → Missed p
 unfolding missOf
@@ -96,4 +95,4 @@ before-known none = record { misses = []; is = refl }
 before-known (more {p} {ps} r t rest) =
     let here = missed p r t in
     let there = before-known rest in
-    record { misses = here .miss .0 ∷ there .misses; is = rw (here .is, there .is) }
+    record { misses = here .miss ∷ there .misses; is = rw (here .is, there .is) }

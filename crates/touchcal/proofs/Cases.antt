@@ -14,9 +14,9 @@ use Rattle.panel.specs.declared.points.Point.{Point}
 use Rattle.panel.specs.declared.refusals.Refusal.the-variants.{Huge}
 use Rattle.calmap.specs.Wide.{in32, in16, down}
 use Rattle.calmap.specs.Maps.{line, lineFits, applyOf}
-use Rattle.calmap.specs.Roots.{digit, rootBy, rootOf}
-use Rattle.calmap.specs.Distances.{squared, tenthsOf, tenths, dist10Of}
-use Rattle.calmap.specs.Resids.{missOf, missesOf, largest, residOf}
+use Rattle.calmap.specs.Roots.{digit, rootBy}
+use Rattle.calmap.specs.Distances.{squared, gapOf, tenthsOf, tenths}
+use Rattle.calmap.specs.Resids.{missOf, missesOf, largest, residBy}
 use Rattle.calmap.specs.Checks.{mild, scaleHolds, near, stays, allStay, verdictOf, checkOf}
 use Rattle.calmap.specs.declared.units.Cal.{Cal}
 use Rattle.calmap.specs.declared.units.Q16.{Q16}
@@ -26,7 +26,7 @@ use Rattle.touchcal.specs.Sizes.{zero32, one32}
 use Rattle.touchcal.specs.Floats.{inReach, halfAway, nearestStep, q16Of, outOf, toF32Of, identity, inSteps, stepsOf}
 use Rattle.touchcal.specs.Moments.{placeOf, addPair, sharedOf, addAbout, momentsOf}
 use Rattle.touchcal.specs.Solutions.{detOf, spreads, coefsOf, deltasOf, solvedOf}
-use Rattle.touchcal.specs.Fits.{fitOf, toldFit}
+use Rattle.touchcal.specs.Fits.{fitBy, fitOf, toldFit}
 use Rattle.touchcal.specs.declared.floats.Q16Answer.the-variants as Q16Answer
 use Rattle.touchcal.specs.declared.fitting.FitAnswer.the-variants.{Answered}
 
@@ -46,11 +46,11 @@ moved c2 =
     record { c0 = none; c1 = none; c2 = record { 0 = pos c2 }; c3 = none; c4 = none; c5 = none }
 
 pub corners-41 : fitOf (corners 41) target ≡ Answered (record { cal = moved 2_686_976; mean = tenths 0; max = tenths 0; before = tenths 410; verdict = Shift })
-unfolding fitOf solvedOf momentsOf placeOf addPair sharedOf addAbout detOf spreads coefsOf deltasOf stepsOf inSteps q16Of inReach nearestStep halfAway residOf missesOf missOf largest applyOf line lineFits in32 in16 down digit rootBy rootOf squared tenthsOf dist10Of checkOf verdictOf scaleHolds mild near stays allStay onPanel allOnPanel total mean if_then_else_ _and_ _or_ ofBits add sub mul div lt ofInt toSigned
+unfolding fitBy solvedOf momentsOf placeOf addPair sharedOf addAbout detOf spreads coefsOf deltasOf stepsOf inSteps q16Of inReach nearestStep halfAway residBy missesOf missOf largest applyOf line lineFits in32 in16 down digit rootBy squared gapOf tenthsOf checkOf verdictOf scaleHolds mild near stays allStay onPanel allOnPanel total mean if_then_else_ _and_ _or_ ofBits add sub mul div lt ofInt toSigned
 corners-41 = refl
 
 pub corners-40 : fitOf (corners 40) target ≡ Answered (record { cal = moved 2_621_440; mean = tenths 0; max = tenths 0; before = tenths 400; verdict = Pass })
-unfolding fitOf solvedOf momentsOf placeOf addPair sharedOf addAbout detOf spreads coefsOf deltasOf stepsOf inSteps q16Of inReach nearestStep halfAway residOf missesOf missOf largest applyOf line lineFits in32 in16 down digit rootBy rootOf squared tenthsOf dist10Of checkOf verdictOf scaleHolds mild near stays allStay onPanel allOnPanel total mean if_then_else_ _and_ _or_ ofBits add sub mul div lt ofInt toSigned
+unfolding fitBy solvedOf momentsOf placeOf addPair sharedOf addAbout detOf spreads coefsOf deltasOf stepsOf inSteps q16Of inReach nearestStep halfAway residBy missesOf missOf largest applyOf line lineFits in32 in16 down digit rootBy squared gapOf tenthsOf checkOf verdictOf scaleHolds mild near stays allStay onPanel allOnPanel total mean if_then_else_ _and_ _or_ ofBits add sub mul div lt ofInt toSigned
 corners-40 = refl
 
 -- ---- each refusal, in its order: 65 pairs, with a target off the panel; that target, with no pairs; two pairs; three on one line; a
@@ -71,7 +71,7 @@ pub refusals : map (λ a. toldFit a .number)
     ∷ fitOf (pair (pos 0) (pos 0) (negsuc 1) (pos 0) ∷ pair (pos 32767) (pos 0) (pos 32767) (pos 0) ∷ pair (pos 0) (pos 100) (negsuc 1) (pos 100) ∷ []) target
     ∷ [])
     ≡ 4 ∷ 5 ∷ 6 ∷ 6 ∷ 6 ∷ 3 ∷ []
-unfolding fitOf solvedOf momentsOf placeOf addPair sharedOf addAbout detOf spreads coefsOf deltasOf stepsOf inSteps q16Of inReach nearestStep halfAway residOf missesOf missOf largest applyOf line lineFits in32 in16 down digit rootBy rootOf squared tenthsOf dist10Of checkOf verdictOf scaleHolds mild near stays allStay onPanel allOnPanel total mean if_then_else_ _and_ _or_ ofBits add sub mul div lt ofInt toSigned
+unfolding fitBy solvedOf momentsOf placeOf addPair sharedOf addAbout detOf spreads coefsOf deltasOf stepsOf inSteps q16Of inReach nearestStep halfAway residBy missesOf missOf largest applyOf line lineFits in32 in16 down digit rootBy squared gapOf tenthsOf checkOf verdictOf scaleHolds mild near stays allStay onPanel allOnPanel total mean if_then_else_ _and_ _or_ ofBits add sub mul div lt ofInt toSigned
 refusals = refl
 
 -- ---- `q16` at its edges: NaN; s = 2.0e9, and the float below it; a half of a step either way; and the largest s below a half, which is

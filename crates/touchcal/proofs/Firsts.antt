@@ -17,7 +17,8 @@ use Rattle.panel.specs.declared.refusals.Refusal.{Refusal}
 use Rattle.panel.specs.declared.refusals.Refusal.the-variants.{Long, Target}
 use Rattle.panel.proofs.Follow.{follow, if-true, if-false, or-false}
 use Rattle.calmap.specs.Sizes.{longest}
-use Rattle.calmap.specs.Resids.{pairsOf, residOf, residFirst}
+use Rattle.calmap.specs.Distances.{tenthsOf}
+use Rattle.calmap.specs.Resids.{pairsOf, residOf, residFirst, residFirstBy}
 use Rattle.calmap.specs.Checks.{verdictOf, checkOf, checkFirst}
 use Rattle.calmap.specs.declared.units.Cal.{Cal}
 use Rattle.calmap.specs.declared.units.Pair.{Pair}
@@ -25,8 +26,8 @@ use Rattle.calmap.specs.declared.limits.Verdict.{Verdict}
 use Rattle.calmap.specs.declared.limits.CheckAnswer.{CheckAnswer}
 use Rattle.calmap.specs.declared.limits.CheckAnswer.the-variants as Check
 use Rattle.touchcal.specs.Solutions.{solvedOf}
-use Rattle.touchcal.specs.Fits.{fitted, fitOf}
-use Rattle.touchcal.specs.Held.{foundOf, fitFirst, fitHeld}
+use Rattle.touchcal.specs.Fits.{fittedBy, fitOf, fitBy}
+use Rattle.touchcal.specs.Held.{foundOf, fitFirst, fitFirstBy, fitHeld}
 use Rattle.touchcal.specs.declared.solving.Solved.{Solved}
 use Rattle.touchcal.specs.declared.solving.Solved.the-variants.{Is}
 use Rattle.touchcal.specs.declared.fitting.FitAnswer.{FitAnswer}
@@ -68,15 +69,15 @@ not-long n xs h = le-ltb longest (length (take n xs)) (rw length-take (omega ari
 
 module _ (n : ℕ) (ps : List Pair) (m : ℕ) (ts : List Point) where
   pub fit-long : longest < n → fitFirst n ps m ts ≡ Refused Long
-  unfolding fitFirst
+  unfolding fitFirstBy
   fit-long h = search follow
 
   module _ (few : n ≤ longest) where
     abbrev solution : FitAnswer
-    solution = fitted (solvedOf (take n ps)) (take n ps) (take m ts)
+    solution = fittedBy tenthsOf (solvedOf (take n ps)) (take n ps) (take m ts)
 
     fit-first : fitFirst n ps m ts ≡ of-fit (longest <? m) (longest <? length (take m ts)) (allOnPanel (take m ts)) solution
-    unfolding fitFirst fitOf
+    unfolding fitFirstBy fitBy
     fit-first = rw (or-false _ _ (le-ltb _ _ few), or-false _ _ (not-long n ps few))
 
     pub fit-refused : (c : Cal) (r : Refusal) → checkFirst c m ts ≡ Check.Refused r → fitFirst n ps m ts ≡ Refused r
@@ -88,7 +89,7 @@ module _ (n : ℕ) (ps : List Pair) (m : ℕ) (ts : List Point) where
     fit-goes-on c v e = rw fit-first (both-go-on _ _ _ (verdictOf c (take m ts)) v _ e)
 
     pub resid-first : (c : Cal) → residFirst c n ps ≡ residOf c (take n ps)
-    unfolding residFirst
+    unfolding residFirstBy
     resid-first c = if-false _ _ _ (le-ltb _ _ few)
 
     pub check-first : (c d : Cal) (v : Verdict) → checkFirst d m ts ≡ Check.Answered v → checkFirst c m ts ≡ checkOf c (take m ts)
@@ -108,11 +109,11 @@ module _ (raw tgt : List Tap) (ts : List Point) where
   ps = pairsOf raw tgt
 
   held-long : longest <? length ps or longest <? length ts ≡ true → fitHeld (heldPairs raw tgt) (heldPoints ts) ≡ fitOf ps ts
-  unfolding fitHeld fitOf
+  unfolding fitHeld fitBy
   held-long h = rw (pairs-long raw tgt, points-long ts) (if-true _ _ _ h ∙ sym (if-true _ _ _ h))
 
   held-short : longest <? length ps or longest <? length ts ≡ false → fitHeld (heldPairs raw tgt) (heldPoints ts) ≡ fitOf ps ts
-  unfolding fitHeld fitFirst
+  unfolding fitHeld fitFirstBy
   held-short h =
       let few = ltb-false longest (length ps) (neither-left _ _ h) in
       let few′ = ltb-false longest (length ts) (neither-right _ _ h) in

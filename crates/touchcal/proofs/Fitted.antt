@@ -2,7 +2,7 @@
 -- Assumes nothing.
 use mathlib.Core.Path.{_≡_, refl, ap, subst}
 use mathlib.Core.Bool.{Bool, true, false, not}
-use mathlib.Core.List.{List}
+use mathlib.Core.List.{List, map}
 use Prim.Native.Nat.{ℕ}
 use native.Mathlib.Omega.{arith}
 use lib.ListN.{length}
@@ -15,8 +15,8 @@ use Rattle.panel.specs.declared.refusals.Refusal.{Refusal}
 use Rattle.panel.specs.declared.refusals.Refusal.the-variants as Refusal
 use Rattle.panel.proofs.Follow.{follow, if-of}
 use Rattle.calmap.specs.Sizes.{longest}
-use Rattle.calmap.specs.Distances.{tenths}
-use Rattle.calmap.specs.Resids.{residOf, Misses, known, wide, missesOf, largest, spreadOf}
+use Rattle.calmap.specs.Distances.{Rule, tenthsOf, tenths}
+use Rattle.calmap.specs.Resids.{residBy, Misses, known, wide, missesOf, largest, spreadBy}
 use Rattle.calmap.specs.Checks.{checkOf, verdictOf, none, judged}
 use Rattle.calmap.specs.declared.units.Cal.{Cal}
 use Rattle.calmap.specs.declared.units.Pair.{Pair}
@@ -30,7 +30,7 @@ use Rattle.touchcal.specs.Sizes.{fewest}
 use Rattle.touchcal.specs.Floats.{identity}
 use Rattle.touchcal.specs.Moments.{momentsOf}
 use Rattle.touchcal.specs.Solutions.{spreads, coefsOf, deltasOf, ofSteps, solvedOf}
-use Rattle.touchcal.specs.Fits.{judgedBy, fitWith, weighed, fitted, fitOf, Tells, toldFit}
+use Rattle.touchcal.specs.Fits.{judgedBy, fitWith, weighed, fittedBy, fitBy, Tells, toldFit}
 use Rattle.touchcal.specs.declared.floats.Coefs.{Coefs}
 use Rattle.touchcal.specs.declared.solving.Fault.the-variants.{Few, Line, Steep}
 use Rattle.touchcal.specs.declared.solving.Solved.{Solved}
@@ -53,14 +53,14 @@ solved-are ps = rw (steps-are (deltas ps), if-of ofSteps (allReach (deltas ps)) 
 abbrev pub unfit : List Pair → Bool
 unfit ps = length ps <? fewest or not (spreads (momentsOf ps .sums)) or not (allReach (deltas ps))
 
-pub unfit-exactly : (ps : List Pair) (ts : List Point)
-    → fitted (solvedOf ps) ps ts ≡ (if unfit ps then Refused Refusal.NoFit else weighed (nearestCal (deltas ps)) (residOf (nearestCal (deltas ps)) ps) (residOf identity ps) (checkOf (nearestCal (deltas ps)) ts))
+pub unfit-exactly : (rule : Rule) (ps : List Pair) (ts : List Point)
+    → fittedBy rule (solvedOf ps) ps ts ≡ (if unfit ps then Refused Refusal.NoFit else weighed (nearestCal (deltas ps)) (residBy rule (nearestCal (deltas ps)) ps) (residBy rule identity ps) (checkOf (nearestCal (deltas ps)) ts))
 unfolding if_then_else_ _or_
-unfit-exactly ps ts = rw (solved-are ps) (go (length ps <? fewest) (spreads (momentsOf ps .sums)) (allReach (deltas ps)) (nearestCal (deltas ps)))
+unfit-exactly rule ps ts = rw (solved-are ps) (go (length ps <? fewest) (spreads (momentsOf ps .sums)) (allReach (deltas ps)) (nearestCal (deltas ps)))
   where
     go : (few apart near : Bool) (c : Cal)
-        → fitted (if few then Not Few else if apart then (if near then Is c else Not Steep) else Not Line) ps ts
-        ≡ (if few or not apart or not near then Refused Refusal.NoFit else weighed c (residOf c ps) (residOf identity ps) (checkOf c ts))
+        → fittedBy rule (if few then Not Few else if apart then (if near then Is c else Not Steep) else Not Line) ps ts
+        ≡ (if few or not apart or not near then Refused Refusal.NoFit else weighed c (residBy rule c ps) (residBy rule identity ps) (checkOf c ts))
     go true apart near c = refl
     go false true true c = refl
     go false true false c = refl
@@ -69,13 +69,13 @@ unfit-exactly ps ts = rw (solved-are ps) (go (length ps <? fewest) (spreads (mom
 -- ---- no list too long, and all targets on the panel
 
 module _ (ps : List Pair) (ts : List Point) (few : longest <? length ps ≡ false) (few′ : longest <? length ts ≡ false) (on : allOnPanel ts ≡ true) where
-  pub fit-is : fitOf ps ts ≡ fitted (solvedOf ps) ps ts
-  unfolding fitOf
-  fit-is = search follow
+  pub fit-is : (rule : Rule) → fitBy rule ps ts ≡ fittedBy rule (solvedOf ps) ps ts
+  unfolding fitBy
+  fit-is rule = search follow
 
-  pub resid-is : (c : Cal) → residOf c ps ≡ spreadOf (missesOf c ps)
-  unfolding residOf
-  resid-is c = search follow
+  pub resid-is : (rule : Rule) (c : Cal) → residBy rule c ps ≡ spreadBy rule (missesOf c ps)
+  unfolding residBy
+  resid-is rule c = search follow
 
   pub check-is : (c : Cal) → checkOf c ts ≡ Check.Answered (verdictOf c ts)
   unfolding checkOf
@@ -91,7 +91,8 @@ zeros = record { cal = identity; mean = tenths 0; max = tenths 0; before = tenth
 
 abbrev pub byMisses : Cal → List Point → Misses → Misses → Told Tells
 byMisses c ts (known ds) (known before) =
-    tells 0 (record { cal = c; mean = tenths (mean ds); max = tenths (largest ds); before = tenths (mean before); verdict = judged (judgedBy (verdictOf c ts) (tenths (largest ds))) })
+    let told = map tenthsOf ds in
+    tells 0 (record { cal = c; mean = tenths (mean told); max = tenths (largest told); before = tenths (mean (map tenthsOf before)); verdict = judged (judgedBy (verdictOf c ts) (tenths (largest told))) })
 byMisses c ts (known ds) wide = tells 3 zeros
 byMisses c ts wide before = tells 3 zeros
 
@@ -99,44 +100,44 @@ abbrev pub bySolution : Solved → List Pair → List Point → Told Tells
 bySolution (Is c) ps ts = byMisses c ts (missesOf c ps) (missesOf identity ps)
 bySolution (Not f) ps ts = tells 6 zeros
 
-misses-tell : (c : Cal) (ts : List Point) (ms before : Misses) → toldFit (weighed c (spreadOf ms) (spreadOf before) (Check.Answered (verdictOf c ts))) ≡ byMisses c ts ms before
+misses-tell : (c : Cal) (ts : List Point) (ms before : Misses) → toldFit (weighed c (spreadBy tenthsOf ms) (spreadBy tenthsOf before) (Check.Answered (verdictOf c ts))) ≡ byMisses c ts ms before
 misses-tell c ts (known ds) (known d0) = refl
 misses-tell c ts (known ds) wide = refl
 misses-tell c ts wide before = refl
 
 module _ (ps : List Pair) (ts : List Point) (few : longest <? length ps ≡ false) (few′ : longest <? length ts ≡ false) (on : allOnPanel ts ≡ true) where
-  pub solution-tells : (s : Solved) → toldFit (fitted s ps ts) ≡ bySolution s ps ts
-  solution-tells (Is c) = rw (resid-is ps ts few few′ on c, resid-is ps ts few few′ on identity, check-is ps ts few few′ on c) (misses-tell c ts (missesOf c ps) (missesOf identity ps))
+  pub solution-tells : (s : Solved) → toldFit (fittedBy tenthsOf s ps ts) ≡ bySolution s ps ts
+  solution-tells (Is c) = rw (resid-is ps ts few few′ on tenthsOf c, resid-is ps ts few few′ on tenthsOf identity, check-is ps ts few few′ on c) (misses-tell c ts (missesOf c ps) (missesOf identity ps))
   solution-tells (Not f) = refl
 
 -- ---- the residuals and the verdict of a fit that is answered
 
-pub record Measured (ps : List Pair) (ts : List Point) (f : Fit) : Type 0 where
+pub record Measured (rule : Rule) (ps : List Pair) (ts : List Point) (f : Fit) : Type 0 where
   -- the largest distance without a calibration, which a fit does not tell, and the verdict of `check`
   pub most : Tenths
   pub checked : Verdict
-  pub after : residOf (f .cal) ps ≡ Resid.Answered (record { mean = f .mean; max = f .max })
-  pub before : residOf identity ps ≡ Resid.Answered (record { mean = f .before; max = most })
+  pub after : residBy rule (f .cal) ps ≡ Resid.Answered (record { mean = f .mean; max = f .max })
+  pub before : residBy rule identity ps ≡ Resid.Answered (record { mean = f .before; max = most })
   pub check : checkOf (f .cal) ts ≡ Check.Answered checked
   pub verdict : f .verdict ≡ judgedBy checked (f .max)
 
-never : {X : Type 0} (r : Refusal) (f : Fit) → Refused r ≡ Answered f → X
+pub never : {X : Type 0} (r : Refusal) (f : Fit) → Refused r ≡ Answered f → X
 never r f e = let z : _≡_ {A = ℕ} 0 1 = cc in absurd (omega arith)
 
-weighed-back : (ps : List Pair) (ts : List Point) (c : Cal) (r r0 : ResidAnswer) (k : CheckAnswer) (f : Fit)
-    → residOf c ps ≡ r → residOf identity ps ≡ r0 → checkOf c ts ≡ k → weighed c r r0 k ≡ Answered f → (c ≡ f .cal) × Measured ps ts f
-weighed-back ps ts c (Resid.Answered s) (Resid.Answered s0) (Check.Answered v) f p p0 q e =
+weighed-back : (rule : Rule) (ps : List Pair) (ts : List Point) (c : Cal) (r r0 : ResidAnswer) (k : CheckAnswer) (f : Fit)
+    → residBy rule c ps ≡ r → residBy rule identity ps ≡ r0 → checkOf c ts ≡ k → weighed c r r0 k ≡ Answered f → (c ≡ f .cal) × Measured rule ps ts f
+weighed-back rule ps ts c (Resid.Answered s) (Resid.Answered s0) (Check.Answered v) f p p0 q e =
     let is : fitWith c s s0 v ≡ f = cc in
-    subst (λ (g : Fit). (c ≡ g .cal) × Measured ps ts g) is (refl, record { most = s0 .max; checked = v; after = p; before = p0; check = q; verdict = refl })
-weighed-back ps ts c (Resid.Answered s) (Resid.Answered s0) (Check.Refused r) f p p0 q e = never r f e
-weighed-back ps ts c (Resid.Answered s) (Resid.Refused r) k f p p0 q e = never r f e
-weighed-back ps ts c (Resid.Refused r) r0 k f p p0 q e = never r f e
+    subst (λ (g : Fit). (c ≡ g .cal) × Measured rule ps ts g) is (refl, record { most = s0 .max; checked = v; after = p; before = p0; check = q; verdict = refl })
+weighed-back rule ps ts c (Resid.Answered s) (Resid.Answered s0) (Check.Refused r) f p p0 q e = never r f e
+weighed-back rule ps ts c (Resid.Answered s) (Resid.Refused r) k f p p0 q e = never r f e
+weighed-back rule ps ts c (Resid.Refused r) r0 k f p p0 q e = never r f e
 
-fitted-back : (ps : List Pair) (ts : List Point) (s : Solved) (f : Fit) → fitted s ps ts ≡ Answered f → (s ≡ Is (f .cal)) × Measured ps ts f
-fitted-back ps ts (Is c) f e =
-    let m = weighed-back ps ts c (residOf c ps) (residOf identity ps) (checkOf c ts) f refl refl refl e in
+fitted-back : (rule : Rule) (ps : List Pair) (ts : List Point) (s : Solved) (f : Fit) → fittedBy rule s ps ts ≡ Answered f → (s ≡ Is (f .cal)) × Measured rule ps ts f
+fitted-back rule ps ts (Is c) f e =
+    let m = weighed-back rule ps ts c (residBy rule c ps) (residBy rule identity ps) (checkOf c ts) f refl refl refl e in
     (ap (λ (k : Cal). Is k) (m .0), m .1)
-fitted-back ps ts (Not r) f e = never Refusal.NoFit f e
+fitted-back rule ps ts (Not r) f e = never Refusal.NoFit f e
 
 answered-inside : (a b : Bool) (r r′ : Refusal) (x : FitAnswer) (f : Fit) → (if a then Refused r else if b then x else Refused r′) ≡ Answered f → x ≡ Answered f
 unfolding if_then_else_
@@ -145,6 +146,6 @@ answered-inside false true r r′ x f e = e
 answered-inside false false r r′ x f e = never r′ f e
 
 -- the calibration is the solution, its residuals are those of `resid`, its verdict is that of `check`: none of them is made up
-pub fit-measured : (ps : List Pair) (ts : List Point) (f : Fit) → fitOf ps ts ≡ Answered f → (solvedOf ps ≡ Is (f .cal)) × Measured ps ts f
-unfolding fitOf
-fit-measured ps ts f e = fitted-back ps ts (solvedOf ps) f (answered-inside _ _ _ _ _ f e)
+pub fit-measured : (rule : Rule) (ps : List Pair) (ts : List Point) (f : Fit) → fitBy rule ps ts ≡ Answered f → (solvedOf ps ≡ Is (f .cal)) × Measured rule ps ts f
+unfolding fitBy
+fit-measured rule ps ts f e = fitted-back rule ps ts (solvedOf ps) f (answered-inside _ _ _ _ _ f e)

@@ -17,13 +17,15 @@ use Rattle.calmap.specs.Resids.{pairsOf}
 use Rattle.calmap.specs.Sizes.{longest}
 use Rattle.calmap.specs.declared.held.Pairs.{Pairs}
 use Rattle.calmap.specs.declared.held.Points.{Points}
+use Rattle.calmap.specs.declared.limits.CheckAnswer.{CheckAnswer}
+use Rattle.calmap.specs.declared.residuals.ResidAnswer.{ResidAnswer}
 use Rattle.calmap.specs.declared.units.Cal.{Cal}
 use Rattle.calmap.specs.declared.units.Pair.{Pair}
 use Rattle.calmap.specs.declared.units.Tap.{Tap}
 use Rattle.touchcal.specs.Floats.{inReach, nearestStep, q16Of, toldQ16, offIdentity, toF32Of, fromF32Of, identity, toldCal}
 use Rattle.touchcal.specs.Scpi.{clear, kept, putOf, takeOf, toldPut, toldTake}
 use Rattle.touchcal.specs.Solutions.{solvedOf}
-use Rattle.touchcal.specs.Fits.{fitOf, toldFit}
+use Rattle.touchcal.specs.Fits.{weighed, fitBy, fitOf, toldFit}
 use Rattle.touchcal.specs.Held.{fitFirst, fitHeld}
 use Rattle.touchcal.specs.declared.fitting.FitAnswer.{FitAnswer}
 use Rattle.touchcal.specs.declared.floats.Coefs.{Coefs}
@@ -60,7 +62,7 @@ take-tells p = if-of toldTake _ _ _
 
 -- LONG, TARGET, NOFIT and WIDE in this order; else the calibration, its residuals and the verdict.
 pub fit-tells : (ps : List Pair) (ts : List Point) → toldFit (fitOf ps ts) ≡ (if longest <? length ps or longest <? length ts then tells 4 zeros else if allOnPanel ts then bySolution (solvedOf ps) ps ts else tells 5 zeros)
-unfolding fitOf
+unfolding fitBy
 fit-tells ps ts =
     if-of toldFit _ _ _
     ∙ if-else _ _ _ _ (λ short.
@@ -97,6 +99,9 @@ to-unique c = one-answer
 pub from-unique : (v : Coefs) {r s : cal-answer.CalAnswer} → r ≡ fromF32Of v → s ≡ fromF32Of v → r ≡ s
 from-unique v = one-answer
 
+pub no-cal-unique : {r s : Cal} → r ≡ identity → s ≡ identity → r ≡ s
+no-cal-unique = one-answer
+
 pub cleared-unique : {r s : Pending} → r ≡ clear → s ≡ clear → r ≡ s
 cleared-unique = one-answer
 
@@ -108,6 +113,9 @@ module _ (p : Pending) where
   take-unique = one-answer
 
 module _ {r s : FitAnswer} where
+  pub weigh-unique : (c : Cal) (after before : ResidAnswer) (k : CheckAnswer) → r ≡ weighed c after before k → s ≡ weighed c after before k → r ≡ s
+  weigh-unique c after before k = one-answer
+
   pub fit-of-unique : (n : ℕ) (ps : List Pair) (m : ℕ) (ts : List Point) → r ≡ fitFirst n ps m ts → s ≡ fitFirst n ps m ts → r ≡ s
   fit-of-unique n ps m ts = one-answer
 

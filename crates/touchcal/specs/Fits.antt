@@ -2,7 +2,8 @@
 --
 -- "4 LONG: over 64 pairs in use, or over 64 targets; 5 TARGET: a target off the panel; 6 NOFIT: Rust `fit` answers `None`;
 -- 3 WIDE: a 32-bit value or sum named below does not fit". Order: "LONG, TARGET, NOFIT, WIDE in `fit`". "Verdict: Scale,
--- Shift, then Resid if max > 250." Mean, max and before are those of `resid`, Scale and Shift those of `check`.
+-- Shift, then Resid if max > 250." Mean, max and before are those of `resid`, Scale and Shift those of `check`. It is stated
+-- over the rule of tenths that `resid` goes by (calmap's Distances).
 use mathlib.Core.List.{List}
 use lib.ListN.{length}
 use Rattle.panel.specs.Tests.{if_then_else_, _or_, _<?_}
@@ -11,8 +12,8 @@ use Rattle.panel.specs.Refusals.{Told, answered, refused}
 use Rattle.panel.specs.declared.points.Point.{Point}
 use Rattle.panel.specs.declared.refusals.Refusal.the-variants.{Long, Target, NoFit}
 use Rattle.calmap.specs.Sizes.{longest}
-use Rattle.calmap.specs.Distances.{tenths}
-use Rattle.calmap.specs.Resids.{residOf}
+use Rattle.calmap.specs.Distances.{Rule, tenthsOf, tenths}
+use Rattle.calmap.specs.Resids.{residBy}
 use Rattle.calmap.specs.Checks.{checkOf, Judged, none, judged}
 use Rattle.calmap.specs.declared.units.Cal.{Cal}
 use Rattle.calmap.specs.declared.units.Pair.{Pair}
@@ -51,15 +52,19 @@ weighed c (Resid.Answered s) (Resid.Answered s0) (Check.Refused r) = Refused r
 weighed c (Resid.Answered s) (Resid.Refused r) k = Refused r
 weighed c (Resid.Refused r) before k = Refused r
 
-abbrev pub fitted : Solved → List Pair → List Point → FitAnswer
-fitted (Solved.Is c) ps ts = weighed c (residOf c ps) (residOf identity ps) (checkOf c ts)
-fitted (Solved.Not f) ps ts = Refused NoFit
+abbrev pub fittedBy : Rule → Solved → List Pair → List Point → FitAnswer
+fittedBy rule (Solved.Is c) ps ts = weighed c (residBy rule c ps) (residBy rule identity ps) (checkOf c ts)
+fittedBy rule (Solved.Not f) ps ts = Refused NoFit
 
-unfoldable pub fitOf : List Pair → List Point → FitAnswer
-fitOf ps ts =
+unfoldable pub fitBy : Rule → List Pair → List Point → FitAnswer
+fitBy rule ps ts =
     if longest <? length ps or longest <? length ts then Refused Long
-    else if allOnPanel ts then fitted (solvedOf ps) ps ts
+    else if allOnPanel ts then fittedBy rule (solvedOf ps) ps ts
     else Refused Target
+
+-- by the rule of the calls
+abbrev pub fitOf : List Pair → List Point → FitAnswer
+fitOf = fitBy tenthsOf
 
 -- what a fit tells; zeros and no verdict for a refusal
 pub record Tells : Type 0 where

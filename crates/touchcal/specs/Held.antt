@@ -6,13 +6,14 @@ use lib.ListN.{take}
 use Rattle.panel.specs.Tests.{if_then_else_, _or_, _<?_}
 use Rattle.panel.specs.declared.points.Point.{Point}
 use Rattle.panel.specs.declared.refusals.Refusal.the-variants.{Long}
+use Rattle.calmap.specs.Distances.{Rule, tenthsOf}
 use Rattle.calmap.specs.Sizes.{longest}
 use Rattle.calmap.specs.declared.units.Cal.{Cal}
 use Rattle.calmap.specs.declared.units.Pair.{Pair}
 use Rattle.calmap.specs.declared.held.Pairs.{Pairs}
 use Rattle.calmap.specs.declared.held.Points.{Points}
 use Rattle.touchcal.specs.Floats.{identity}
-use Rattle.touchcal.specs.Fits.{fitOf}
+use Rattle.touchcal.specs.Fits.{fitBy}
 use Rattle.touchcal.specs.declared.solving.Solved.{Solved}
 use Rattle.touchcal.specs.declared.solving.Solved.the-variants as Solved
 use Rattle.touchcal.specs.declared.fitting.FitAnswer.{FitAnswer}
@@ -24,10 +25,13 @@ foundOf (Solved.Is c) = c
 foundOf (Solved.Not f) = identity
 
 -- the first n pairs and the first m targets, of arrays that hold 64
-unfoldable pub fitFirst : ℕ → List Pair → ℕ → List Point → FitAnswer
-fitFirst n ps m ts =
+unfoldable pub fitFirstBy : Rule → ℕ → List Pair → ℕ → List Point → FitAnswer
+fitFirstBy rule n ps m ts =
     if longest <? n or longest <? m then Refused Long
-    else fitOf (take n ps) (take m ts)
+    else fitBy rule (take n ps) (take m ts)
+
+abbrev pub fitFirst : ℕ → List Pair → ℕ → List Point → FitAnswer
+fitFirst = fitFirstBy tenthsOf
 
 unfoldable pub fitHeld : Pairs → Points → FitAnswer
 fitHeld a t =

@@ -71,7 +71,7 @@ fn fit_with(c: Cal, after: Spread, before: Spread, v: Verdict) -> Fit
 }
 
 // The same, where none of them is refused.
-fn weigh(c: Cal, after: ResidAnswer, before: ResidAnswer, check: CheckAnswer) -> FitAnswer
+pub fn weigh(c: Cal, after: ResidAnswer, before: ResidAnswer, check: CheckAnswer) -> FitAnswer
     ensures { λ r. ⌜ r ≡ weighed c after before check ⌝ }
 {
     match after {

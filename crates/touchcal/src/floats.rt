@@ -154,7 +154,7 @@ pub fn from_f32(v: Coefs) -> CalAnswer
 }
 
 // No calibration: the identity.
-pub(crate) fn no_cal() -> Cal
+pub fn no_cal() -> Cal
     ensures { λ r. ⌜ r ≡ identity ⌝ }
 {
     let none = Q16(0);

@@ -1,29 +1,35 @@
--- `calmap::gaps::in_tenths` meets its contract. Assumes nothing.
-use Prim.Native.Nat.{ℕ, _<_, _*_, _/_}
-use mathlib.Core.Path.{ap}
+-- `calmap::gaps::in_tenths` meets its contract: the root of 25·d2/64 is the tenths. Assumes nothing.
+use mathlib.Core.Path.{ap, _∙_}
 use native.Mathlib.Omega.{arith}
 use borrow.Author.Needs.{needs}
-use Rattle.calmap.specs.Distances.{tenths, tenthsOf}
-use Rattle.calmap.specs.Sizes.{tenthsIn, sixteenthsIn}
-use Rattle.calmap.proofs.Rooted.{root-below-end}
+use Rattle.calmap.specs.Distances.{tenths}
+use Rattle.calmap.proofs.Rooted.{root-is, root-below-end}
+use Rattle.calmap.proofs.Tenths.{tenths-are, one-tenths, scaled, scaled-rest, scaled-fits, by-root}
 use Rattle.calmap.proofs.gaps.in_tenths.Statement.{statement}
 use Rattle.calmap.proofs.gaps.in_tenths.Tie as tie
 
-small : (c : tie.After-isqrt) → c .isqrt .result < 4294967296
-small c = rw (c .isqrt .ensures) (root-below-end (c .before .args .d2) (c .before .fits .d2 .fits))
+mul-isqrt : tie.Need-mul-isqrt
+mul-isqrt c = search needs
+
+mul-isqrt-2 : tie.Need-mul-isqrt-2
+mul-isqrt-2 c = record { fits = omega (arith, scaled-rest (c .args .d2)) }
+
+add-isqrt : tie.Need-add-isqrt
+add-isqrt c = record { fits = scaled-fits (c .args .d2) (c .fits .d2 .fits) }
 
 isqrt-requires : tie.Need-isqrt-requires
 isqrt-requires c κs = search needs
 
-mul-t3 : tie.Need-mul-t3
-mul-t3 c = record { fits = omega (arith, small c) }
-
-cast-t5 : tie.Need-cast-t5
-cast-t5 c = record { fits = omega (arith, small c) }
+cast-t9 : tie.Need-cast-t9
+cast-t9 c =
+    let d2 = c .before .args .d2 in
+    record { fits = rw (c .isqrt .ensures) (root-below-end (scaled d2) (scaled-fits d2 (c .before .fits .d2 .fits))) }
 
 returns : tie.Need-returns
-unfolding tenthsOf
-returns c = ap (λ (r : ℕ). tenths (r * tenthsIn / sixteenthsIn)) (c .isqrt .ensures)
+returns c =
+    let d2 = c .before .args .d2 in
+    let h = c .before .fits .d2 .fits in
+    ap tenths (c .isqrt .ensures ∙ one-tenths (by-root _ d2 (root-is (scaled d2) (scaled-fits d2 h))) (tenths-are d2 h))
 
 pub in-tenths-spec : {M : Type 1} → statement M
-in-tenths-spec = tie.close (tie.spec isqrt-requires mul-t3 cast-t5 returns)
+in-tenths-spec = tie.close (tie.spec mul-isqrt mul-isqrt-2 add-isqrt isqrt-requires cast-t9 returns)

@@ -7,11 +7,11 @@ use mir.Syntax.{w16, w32}
 use mir.Val.{toZ, ofZ, SFits}
 use mir.ValLaws.{toZ-ofZ}
 use borrow.Author.Needs.{needs}
-use Rattle.calmap.specs.Checked.{farthest}
-use Rattle.calmap.specs.Distances.{dist10Of, toldDist10}
+use Rattle.calmap.specs.Checked.{farthest, squareIn}
+use Rattle.calmap.specs.Distances.{gapOf}
 use Rattle.calmap.specs.Maps.{applyOf}
 use Rattle.calmap.specs.Resids.{inSixteenths, missOf}
-use Rattle.calmap.specs.declared.gaps.Dist10Answer.{Dist10Answer}
+use Rattle.calmap.specs.declared.gaps.Gap.{Gap}
 use Rattle.calmap.proofs.Bounds.{applied-size, miss-at-most}
 use Rattle.calmap.proofs.Signed.{plain}
 use Rattle.calmap.proofs.residuals.miss.Statement.{statement}
@@ -64,8 +64,8 @@ tap-in-16-requires c κs = search needs
 tap-in-16-requires-2 : tie.Need-tap-in-16-requires-2
 tap-in-16-requires-2 c κs = search needs
 
-dist10-requires : tie.Need-dist10-requires
-dist10-requires c κs = search needs
+gap-between-requires : tie.Need-gap-between-requires
+gap-between-requires c κs = search needs
 
 returns-2 : tie.Need-returns-2
 unfolding missOf
@@ -77,9 +77,9 @@ returns-2 c =
     let fy = fits-y (c .before .before) in
     let ex = c .before .before .before .tap-in-16 .ensures ∙ ap (λ (z : ℤ). inSixteenths z) (toZ-ofZ w16 (s .p .tgt .x) fx) in
     let ey = c .before .tap-in-162 .ensures ∙ ap (λ (z : ℤ). inSixteenths z) (toZ-ofZ w16 (s .p .tgt .y) fy) in
-    let e = c .dist10 .ensures ∙ (λ i. dist10Of (p .0) (p .1) (ex i) (ey i)) in
+    let e = c .gap-between .ensures ∙ (λ i. gapOf (p .0) (p .1) (ex i) (ey i)) in
     let lands = applied-size (s .c) (s .p .raw .x) (s .p .raw .y) p at in
-    (rw at e, subst (λ (d : Dist10Answer). toldDist10 d .value .0 ≤ farthest) (sym e) (miss-at-most p (s .p .tgt .x) (s .p .tgt .y) lands (fx .sfits) (fy .sfits)))
+    (rw at e, subst (λ (g : Gap). squareIn g ≤ farthest) (sym e) (miss-at-most p (s .p .tgt .x) (s .p .tgt .y) lands (fx .sfits) (fy .sfits)))
 
 pub miss-spec : {M : Type 1} → statement M
 miss-spec =
@@ -93,5 +93,5 @@ miss-spec =
     returns
     tap-in-16-requires
     tap-in-16-requires-2
-    dist10-requires
+    gap-between-requires
     returns-2)

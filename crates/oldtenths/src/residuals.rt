@@ -1,0 +1,45 @@
+// How far taps land from their targets, by the old tenths.
+ghost use mathlib.Core.Path.{_≡_};
+ghost use Rattle.calmap.specs.Resids.{residFirstBy};
+ghost use Rattle.oldtenths.specs.OldTenths.{oldTenthsOf};
+use crate::gaps;
+use calmap::Cal;
+use calmap::Gap;
+use calmap::MAX_TAPS;
+use calmap::Pair;
+use calmap::ResidAnswer;
+use calmap::Spread;
+use calmap::Tenths;
+use panel::Refusal;
+
+// `resid` of the first n taps.
+pub fn old_resid_of(c: Cal, pairs: [Pair; MAX_TAPS], n: usize) -> ResidAnswer
+    ensures { λ r. ⌜ r ≡ residFirstBy oldTenthsOf c n pairs ⌝ }
+{
+    if MAX_TAPS < n {
+        return ResidAnswer::Refused(Refusal::Long);
+    }
+    if n == 0 {
+        return ResidAnswer::Answered(Spread {
+            mean: Tenths(0),
+            max: Tenths(0),
+        });
+    }
+    let mut sum: u32 = 0;
+    let mut most: u32 = 0;
+    let mut i = 0;
+    while i < n {
+        let p = pairs[i];
+        let Gap::Squared(d2) = calmap::miss(c, p) else {
+            return ResidAnswer::Refused(Refusal::Wide);
+        };
+        let d = gaps::in_old_tenths(d2);
+        sum += d.0;
+        most = calmap::larger(most, d.0);
+        i += 1;
+    }
+    ResidAnswer::Answered(Spread {
+        mean: Tenths(sum / (n as u32)),
+        max: Tenths(most),
+    })
+}

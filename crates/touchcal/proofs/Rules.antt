@@ -1,0 +1,104 @@
+-- `fit` by one rule of tenths and by another: the same calls are refused, with the same refusal, and the calibration is the
+-- same; what is told in tenths, and the verdict that hangs on it, is that of each rule. Assumes nothing.
+use mathlib.Core.Path.{_≡_, refl, ap, _∙_}
+use mathlib.Core.Bool.{Bool, true, false}
+use mathlib.Core.List.{List}
+use Prim.Native.Nat.{ℕ}
+use native.Mathlib.Omega.{arith}
+use lib.ListN.{length, take}
+use Rattle.panel.specs.Tests.{if_then_else_, _or_, _<?_}
+use Rattle.panel.specs.Points.{allOnPanel}
+use Rattle.panel.specs.declared.points.Point.{Point}
+use Rattle.panel.specs.declared.refusals.Refusal.{Refusal}
+use Rattle.panel.specs.declared.refusals.Refusal.the-variants as Refusal
+use Rattle.calmap.specs.Distances.{Rule}
+use Rattle.calmap.specs.Resids.{Misses, known, wide, missesOf, spreadBy, residBy, residFirstBy}
+use Rattle.calmap.specs.Checks.{checkOf, checkFirst}
+use Rattle.calmap.specs.Sizes.{longest}
+use Rattle.calmap.specs.declared.units.Cal.{Cal}
+use Rattle.calmap.specs.declared.units.Pair.{Pair}
+use Rattle.calmap.specs.declared.limits.CheckAnswer.{CheckAnswer}
+use Rattle.calmap.specs.declared.limits.CheckAnswer.the-variants as Check
+use Rattle.calmap.specs.declared.residuals.ResidAnswer.the-variants as Resid
+use Rattle.touchcal.specs.Floats.{identity}
+use Rattle.touchcal.specs.Solutions.{solvedOf}
+use Rattle.touchcal.specs.Fits.{weighed, fittedBy, fitBy}
+use Rattle.touchcal.specs.Held.{fitFirstBy}
+use Rattle.touchcal.specs.declared.solving.Solved.{Solved}
+use Rattle.touchcal.specs.declared.solving.Solved.the-variants.{Is, Not}
+use Rattle.touchcal.specs.declared.fitting.Fit.{Fit}
+use Rattle.touchcal.specs.declared.fitting.FitAnswer.{FitAnswer}
+use Rattle.touchcal.specs.declared.fitting.FitAnswer.the-variants.{Answered, Refused}
+use Rattle.touchcal.proofs.Fitted.{never, fit-measured}
+
+never-answered : {X : Type 0} (r : Refusal) (f : Fit) → Answered f ≡ Refused r → X
+never-answered r f e = let z : _≡_ {A = ℕ} 0 1 = cc in absurd (omega arith)
+
+module _ (a b : Rule) where
+  -- ---- the same refusals
+
+  same-weighed : (long : Bool) (ms before : Misses) (c : Cal) (k : CheckAnswer) (r : Refusal)
+      → weighed c (if long then Resid.Refused Refusal.Long else spreadBy a ms) (if long then Resid.Refused Refusal.Long else spreadBy a before) k ≡ Refused r
+      → weighed c (if long then Resid.Refused Refusal.Long else spreadBy b ms) (if long then Resid.Refused Refusal.Long else spreadBy b before) k ≡ Refused r
+  unfolding if_then_else_
+  same-weighed true ms before c k r e = e
+  same-weighed false (known ds) (known d0) c (Check.Answered v) r e = never-answered r _ e
+  same-weighed false (known ds) (known d0) c (Check.Refused s) r e = e
+  same-weighed false (known ds) wide c k r e = e
+  same-weighed false wide before c k r e = e
+
+  same-fitted : (s : Solved) (ps : List Pair) (ts : List Point) (r : Refusal) → fittedBy a s ps ts ≡ Refused r → fittedBy b s ps ts ≡ Refused r
+  unfolding residBy
+  same-fitted (Is c) ps ts r e = same-weighed (longest <? length ps) (missesOf c ps) (missesOf identity ps) c (checkOf c ts) r e
+  same-fitted (Not f) ps ts r e = e
+
+  same-inside : (long on : Bool) (s : Solved) (ps : List Pair) (ts : List Point) (r : Refusal)
+      → (if long then Refused Refusal.Long else if on then fittedBy a s ps ts else Refused Refusal.Target) ≡ Refused r
+      → (if long then Refused Refusal.Long else if on then fittedBy b s ps ts else Refused Refusal.Target) ≡ Refused r
+  unfolding if_then_else_
+  same-inside true on s ps ts r e = e
+  same-inside false true s ps ts r e = same-fitted s ps ts r e
+  same-inside false false s ps ts r e = e
+
+  pub same-refused : (ps : List Pair) (ts : List Point) (r : Refusal) → fitBy a ps ts ≡ Refused r → fitBy b ps ts ≡ Refused r
+  unfolding fitBy
+  same-refused ps ts r e = same-inside (longest <? length ps or longest <? length ts) (allOnPanel ts) (solvedOf ps) ps ts r e
+
+  -- ---- the same calibration
+
+  -- what stands inside the tests that a fit has passed
+  passed : (long on : Bool) (x y : FitAnswer) (f : Fit) → (if long then Refused Refusal.Long else if on then x else Refused Refusal.Target) ≡ Answered f → (if long then Refused Refusal.Long else if on then y else Refused Refusal.Target) ≡ y
+  unfolding if_then_else_
+  passed true on x y f e = never Refusal.Long f e
+  passed false true x y f e = refl
+  passed false false x y f e = never Refusal.Target f e
+
+  pub same-cal : (ps : List Pair) (ts : List Point) (f : Fit) → fitBy a ps ts ≡ Answered f → fitBy b ps ts ≡ weighed (f .cal) (residBy b (f .cal) ps) (residBy b identity ps) (checkOf (f .cal) ts)
+  unfolding fitBy
+  same-cal ps ts f e =
+      passed (longest <? length ps or longest <? length ts) (allOnPanel ts) (fittedBy a (solvedOf ps) ps ts) (fittedBy b (solvedOf ps) ps ts) f e
+      ∙ ap (λ (s : Solved). fittedBy b s ps ts) (fit-measured a ps ts f e .0)
+
+  -- ---- the same of the first pairs and targets of arrays
+
+  module _ (n : ℕ) (ps : List Pair) (m : ℕ) (ts : List Point) where
+    first-refused : (long : Bool) (r : Refusal) → (if long then Refused Refusal.Long else fitBy a (take n ps) (take m ts)) ≡ Refused r → (if long then Refused Refusal.Long else fitBy b (take n ps) (take m ts)) ≡ Refused r
+    unfolding if_then_else_
+    first-refused true r e = e
+    first-refused false r e = same-refused (take n ps) (take m ts) r e
+
+    pub same-refused-first : (r : Refusal) → fitFirstBy a n ps m ts ≡ Refused r → fitFirstBy b n ps m ts ≡ Refused r
+    unfolding fitFirstBy
+    same-refused-first r e = first-refused (longest <? n or longest <? m) r e
+
+    first-cal : (l l′ : Bool) (f : Fit) → (if l or l′ then Refused Refusal.Long else fitBy a (take n ps) (take m ts)) ≡ Answered f
+        → (if l or l′ then Refused Refusal.Long else fitBy b (take n ps) (take m ts))
+        ≡ weighed (f .cal) (if l then Resid.Refused Refusal.Long else residBy b (f .cal) (take n ps)) (if l then Resid.Refused Refusal.Long else residBy b identity (take n ps)) (if l′ then Check.Refused Refusal.Long else checkOf (f .cal) (take m ts))
+    unfolding if_then_else_ _or_
+    first-cal true l′ f e = never Refusal.Long f e
+    first-cal false true f e = never Refusal.Long f e
+    first-cal false false f e = same-cal (take n ps) (take m ts) f e
+
+    pub same-cal-first : (f : Fit) → fitFirstBy a n ps m ts ≡ Answered f → fitFirstBy b n ps m ts ≡ weighed (f .cal) (residFirstBy b (f .cal) n ps) (residFirstBy b identity n ps) (checkFirst (f .cal) m ts)
+    unfolding fitFirstBy residFirstBy checkFirst
+    same-cal-first f e = first-cal (longest <? n) (longest <? m) f e
