@@ -59,17 +59,11 @@ square-sixteen t = mul-assoc 16 t (16 * t) ∙ ap (λ (x : ℕ). 16 * x) (mul-co
 mask : (d2 : ℕ) → bitAnd d2 63 ≡ d2 % 64
 mask d2 = and-mask d2 6
 
--- as the code works it out: by shifts and a mask, and within 64 bits
-abbrev pub scaled : ℕ → ℕ
-scaled d2 = 25 * (d2 / 64) + 25 * bitAnd d2 63 / 64
+pub low-digits : (d2 : ℕ) → bitAnd d2 63 < 64
+low-digits d2 = omega (arith, mask d2)
 
-pub scaled-rest : (d2 : ℕ) → 25 * bitAnd d2 63 < 1600
-scaled-rest d2 = omega (arith, mask d2)
-
-pub scaled-fits : (d2 : ℕ) → d2 < 2 ^ 64 → scaled d2 < 2 ^ 64
-scaled-fits d2 h = omega (arith, h, scaled-rest d2)
-
-pub by-root : (r d2 : ℕ) → IsRoot r (scaled d2) → IsTenths r d2
+-- as the code works it out, by shifts and a mask
+pub by-root : (r d2 : ℕ) → IsRoot r (25 * (d2 / 64) + 25 * bitAnd d2 63 / 64) → IsTenths r d2
 by-root r d2 i = record {
   below = omega (arith, square-sixteen r, mask d2, i .below);
   above = omega (arith, square-sixteen (r + 1), mask d2, i .above);

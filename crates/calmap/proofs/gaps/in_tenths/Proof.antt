@@ -4,7 +4,7 @@ use native.Mathlib.Omega.{arith}
 use borrow.Author.Needs.{needs}
 use Rattle.calmap.specs.Distances.{tenths}
 use Rattle.calmap.proofs.Rooted.{root-is, root-below-end}
-use Rattle.calmap.proofs.Tenths.{tenths-are, one-tenths, scaled, scaled-rest, scaled-fits, by-root}
+use Rattle.calmap.proofs.Tenths.{tenths-are, one-tenths, low-digits, by-root}
 use Rattle.calmap.proofs.gaps.in_tenths.Statement.{statement}
 use Rattle.calmap.proofs.gaps.in_tenths.Tie as tie
 
@@ -12,24 +12,22 @@ mul-isqrt : tie.Need-mul-isqrt
 mul-isqrt c = search needs
 
 mul-isqrt-2 : tie.Need-mul-isqrt-2
-mul-isqrt-2 c = record { fits = omega (arith, scaled-rest (c .args .d2)) }
+mul-isqrt-2 c = record { fits = omega (arith, low-digits (c .args .d2)) }
 
 add-isqrt : tie.Need-add-isqrt
-add-isqrt c = record { fits = scaled-fits (c .args .d2) (c .fits .d2 .fits) }
+add-isqrt c = record { fits = omega (arith, low-digits (c .args .d2), c .fits .d2 .fits) }
 
 isqrt-requires : tie.Need-isqrt-requires
 isqrt-requires c κs = search needs
 
 cast-t9 : tie.Need-cast-t9
-cast-t9 c =
-    let d2 = c .before .args .d2 in
-    record { fits = rw (c .isqrt .ensures) (root-below-end (scaled d2) (scaled-fits d2 (c .before .fits .d2 .fits))) }
+cast-t9 c = record { fits = rw (c .isqrt .ensures) (root-below-end _ (add-isqrt (c .before) .fits)) }
 
 returns : tie.Need-returns
 returns c =
     let d2 = c .before .args .d2 in
-    let h = c .before .fits .d2 .fits in
-    ap tenths (c .isqrt .ensures ∙ one-tenths (by-root _ d2 (root-is (scaled d2) (scaled-fits d2 h))) (tenths-are d2 h))
+    let root = root-is _ (add-isqrt (c .before) .fits) in
+    ap tenths (c .isqrt .ensures ∙ one-tenths (by-root _ d2 root) (tenths-are d2 (c .before .fits .d2 .fits)))
 
 pub in-tenths-spec : {M : Type 1} → statement M
 in-tenths-spec = tie.close (tie.spec mul-isqrt mul-isqrt-2 add-isqrt isqrt-requires cast-t9 returns)
