@@ -21,7 +21,7 @@ use Rattle.calmap.specs.Checks.{mild, scaleHolds, near, stays, allStay, verdict
 use Rattle.calmap.specs.declared.units.Cal.{Cal}
 use Rattle.calmap.specs.declared.units.Q16.{Q16}
 use Rattle.calmap.specs.declared.units.Pair.{Pair}
-use Rattle.calmap.specs.declared.limits.Verdict.the-variants.{Pass, Shift}
+use Rattle.calmap.specs.declared.limits.Verdict.the-variants.{Pass, Shift, Resid}
 use Rattle.touchcal.specs.Sizes.{zero32, one32}
 use Rattle.touchcal.specs.Floats.{inReach, halfAway, nearestStep, q16Of, outOf, toF32Of, identity, inSteps, stepsOf}
 use Rattle.touchcal.specs.Moments.{placeOf, addPair, sharedOf, addAbout, momentsOf}
@@ -39,6 +39,9 @@ corners k = corner k 0 0 ∷ corner k 100 0 ∷ corner k 0 100 ∷ corner k 100 
 abbrev pub target : List Point
 target = record { x = 240; y = 160 } ∷ []
 
+abbrev pair : ℤ → ℤ → ℤ → ℤ → Pair
+pair x y u v = record { raw = record { x = x; y = y }; tgt = record { x = u; y = v } }
+
 -- only c2
 abbrev pub moved : ℕ → Cal
 moved c2 =
@@ -53,11 +56,34 @@ pub corners-40 : fitOf (corners 40) target ≡ Answered (record { cal = moved 2_
 unfolding fitBy solvedOf momentsOf placeOf addPair sharedOf addAbout detOf spreads coefsOf deltasOf stepsOf inSteps q16Of inReach nearestStep halfAway residBy missesOf missOf largest applyOf line lineFits in32 in16 down digit rootBy squared gapOf tenthsOf checkOf verdictOf scaleHolds mild near stays allStay onPanel allOnPanel total mean if_then_else_ _and_ _or_ ofBits add sub mul div lt ofInt toSigned
 corners-40 = refl
 
+-- ---- the limit of a fit, "Resid if max > 250": the corners onto themselves, but for two opposite ones that are moved by the same. The fit
+-- lies half way, so that each tap is 25 px and 2 px from its target, 161,024 as a squared distance in sixteenths and 250 tenths; or 25 px
+-- and 2 1/2 px, 161,600 and 251 tenths, of which the rule before request [6] made 250
+
+abbrev pub opposite : ℕ → ℕ → List Pair
+opposite x y =
+    pair (pos 0) (pos 0) (pos x) (pos y)
+    ∷ pair (pos 100) (pos 0) (pos 100) (pos 0)
+    ∷ pair (pos 0) (pos 100) (pos 0) (pos 100)
+    ∷ pair (pos 100) (pos 100) (pos (100 + x)) (pos (100 + y))
+    ∷ []
+
+-- only c2 and c5
+abbrev pub shifted : ℕ → ℕ → Cal
+shifted c2 c5 =
+    let none : Q16 = record { 0 = pos 0 } in
+    record { c0 = none; c1 = none; c2 = record { 0 = pos c2 }; c3 = none; c4 = none; c5 = record { 0 = pos c5 } }
+
+pub at-the-limit : fitOf (opposite 50 4) target ≡ Answered (record { cal = shifted 1_638_400 131_072; mean = tenths 250; max = tenths 250; before = tenths 250; verdict = Pass })
+unfolding fitBy solvedOf momentsOf placeOf addPair sharedOf addAbout detOf spreads coefsOf deltasOf stepsOf inSteps q16Of inReach nearestStep halfAway residBy missesOf missOf largest applyOf line lineFits in32 in16 down digit rootBy squared gapOf tenthsOf checkOf verdictOf scaleHolds mild near stays allStay onPanel allOnPanel total mean if_then_else_ _and_ _or_ ofBits add sub mul div lt ofInt toSigned
+at-the-limit = refl
+
+pub over-the-limit : fitOf (opposite 50 5) target ≡ Answered (record { cal = shifted 1_638_400 163_840; mean = tenths 251; max = tenths 251; before = tenths 251; verdict = Resid })
+unfolding fitBy solvedOf momentsOf placeOf addPair sharedOf addAbout detOf spreads coefsOf deltasOf stepsOf inSteps q16Of inReach nearestStep halfAway residBy missesOf missOf largest applyOf line lineFits in32 in16 down digit rootBy squared gapOf tenthsOf checkOf verdictOf scaleHolds mild near stays allStay onPanel allOnPanel total mean if_then_else_ _and_ _or_ ofBits add sub mul div lt ofInt toSigned
+over-the-limit = refl
+
 -- ---- each refusal, in its order: 65 pairs, with a target off the panel; that target, with no pairs; two pairs; three on one line; a
 -- coefficient beyond the steps; and 32767 · 65536 + 4 · 32767, past i32 in `resid` (where the Rust overflows)
-
-abbrev pair : ℤ → ℤ → ℤ → ℤ → Pair
-pair x y u v = record { raw = record { x = x; y = y }; tgt = record { x = u; y = v } }
 
 abbrev off : List Point
 off = record { x = 480; y = 0 } ∷ []
