@@ -56,6 +56,14 @@ squared-at-most dx dy hx hy =
     let y = natAbs-le dy hy in
     omega (arith, mul-le-mul x x, mul-le-mul y y)
 
+-- of two differences in i32 it is at most 2^63
+pub squared-reach : (dx dy : ℤ) → in32 dx ≡ true → in32 dy ≡ true → squared dx dy ≤ 2 ^ 63
+unfolding squared in32
+squared-reach dx dy hx hy =
+    let x = natAbs-le dx (ltb-true _ _ hx) in
+    let y = natAbs-le dy (ltb-true _ _ hy) in
+    omega (arith, mul-le-mul x x, mul-le-mul y y)
+
 gap-at-most : (b : Bool) (n k : ℕ) → n ≤ k → squareIn (if_then_else_ b (Gap.Squared n) Gap.Wide) ≤ k
 unfolding if_then_else_
 gap-at-most true n k h = h

@@ -1,11 +1,14 @@
 -- The public calls in document 01's numbers: what each tells for every input, and that its contract leaves no second
 -- answer. Assumes nothing.
 use Prim.Native.Nat.{ℕ, _-_, _^_, _<_, max}
-use mathlib.Core.Path.{_≡_, refl, ap, _∙_}
+use mathlib.Core.Path.{_≡_, refl, ap, subst, _∙_}
+use mathlib.Core.Bool.{Bool, true, false}
 use mathlib.Core.List.{List, map}
+use native.Mathlib.Omega.{arith}
 use lib.IntN.{ℤ, pos, _-ℤ_}
 use lib.ListN.{length, take}
 use Rattle.panel.proofs.Follow.{if-of}
+use Rattle.panel.proofs.Laws.{and-left, and-right}
 use Rattle.panel.proofs.Promises.{one-answer}
 use Rattle.panel.specs.Centroids.{mean}
 use Rattle.panel.specs.Points.{allOnPanel}
@@ -23,7 +26,9 @@ use Rattle.calmap.specs.Screening.{nudge, nudgeFits, moved, screenOf, to
 use Rattle.calmap.specs.Sizes.{longest, twelve}
 use Rattle.calmap.specs.Wide.{in32, in16, down}
 use Rattle.calmap.specs.declared.gaps.Dist10Answer.{Dist10Answer}
+use Rattle.calmap.specs.declared.gaps.Dist10Answer.the-variants as Dist10
 use Rattle.calmap.specs.declared.gaps.Gap.{Gap}
+use Rattle.calmap.specs.declared.gaps.Gap.the-variants.{Squared, Wide}
 use Rattle.calmap.specs.declared.held.Pairs.{Pairs}
 use Rattle.calmap.specs.declared.held.Points.{Points}
 use Rattle.calmap.specs.declared.limits.CheckAnswer.{CheckAnswer}
@@ -36,6 +41,8 @@ use Rattle.calmap.specs.declared.units.Cal.{Cal}
 use Rattle.calmap.specs.declared.units.Pair.{Pair}
 use Rattle.calmap.specs.declared.units.Sixteenths.{Sixteenths}
 use Rattle.calmap.specs.declared.units.Tap.{Tap}
+use Rattle.calmap.specs.declared.units.Tenths.{Tenths}
+use Rattle.calmap.proofs.Bounds.{squared-reach}
 use Rattle.calmap.proofs.Rooted.{root-is}
 use Rattle.calmap.proofs.Tenths.{tenths-are}
 
@@ -68,10 +75,19 @@ pub dist10-tells : (ax ay bx by : Sixteenths) → toldDist10 (dist10Of ax ay bx 
 unfolding gapOf
 dist10-tells ax ay bx by = if-of (λ g. toldDist10 (inTenths tenthsOf g)) _ _ _
 
--- The tenths that it tells are the largest t with (16t) squared at most 100 times the squared distance, for every squared
--- distance of 64 bits; of two numbers in i32 it is at most 2^63.
-pub tenths-tell : (d2 : ℕ) → d2 < 2 ^ 64 → IsTenths (tenthsOf d2) d2
-tenths-tell d2 h = tenths-are d2 h
+-- What it tells is the largest t with (16t) squared at most 100 times the squared distance, whatever that is: it is at most
+-- 2^63 (`squared-reach`).
+measured : (b : Bool) (d2 : ℕ) (t : Tenths) → (b ≡ true → d2 < 2 ^ 64) → inTenths tenthsOf (if_then_else_ b (Squared d2) Wide) ≡ Dist10.Answered t → IsTenths (t .0) d2
+unfolding if_then_else_
+measured true d2 t f e = let q : tenths (tenthsOf d2) ≡ t = cc in subst (λ (x : Tenths). IsTenths (x .0) d2) q (tenths-are d2 (f refl))
+measured false d2 t f e = let z : _≡_ {A = ℕ} 0 1 = cc in absurd (omega arith)
+
+pub dist10-measures : (ax ay bx by : Sixteenths) (t : Tenths) → dist10Of ax ay bx by ≡ Dist10.Answered t → IsTenths (t .0) (squared (ax .0 -ℤ bx .0) (ay .0 -ℤ by .0))
+unfolding gapOf
+dist10-measures ax ay bx by t e =
+    let dx = ax .0 -ℤ bx .0 in
+    let dy = ay .0 -ℤ by .0 in
+    measured _ (squared dx dy) t (λ h. omega (arith, squared-reach dx dy (and-left _ _ h) (and-right _ _ h))) e
 
 -- LONG, number 4, exactly for more than 64 pairs; else WIDE exactly if a tap has no distance; else mean and largest.
 abbrev toldMisses : Misses → Told Spread

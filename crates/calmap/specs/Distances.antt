@@ -17,19 +17,19 @@ use Rattle.calmap.specs.declared.gaps.Gap.the-variants.{Squared, Wide}
 use Rattle.calmap.specs.declared.units.Sixteenths.{Sixteenths}
 use Rattle.calmap.specs.declared.units.Tenths.{Tenths}
 
+abbrev pub square : ℕ → ℕ
+square n = n * n
+
 -- the square of the straight line by dx and dy
 unfoldable pub squared : ℤ → ℤ → ℕ
-squared dx dy = natAbs dx * natAbs dx + natAbs dy * natAbs dy
+squared dx dy = square (natAbs dx) + square (natAbs dy)
 
--- from b to a, unless a coordinate difference leaves i32
+-- that from b to a, unless a coordinate difference leaves i32
 unfoldable pub gapOf : Sixteenths → Sixteenths → Sixteenths → Sixteenths → Gap
 gapOf ax ay bx by =
     let dx = ax .0 -ℤ bx .0 in
     let dy = ay .0 -ℤ by .0 in
     if in32 dx and in32 dy then Squared (squared dx dy) else Wide
-
-abbrev pub square : ℕ → ℕ
-square n = n * n
 
 -- t is the largest with (16t) squared at most 100 times d2: that of the next one is over it. There is one such t, and
 -- `tenthsOf` is it for every d2 of 64 bits (`tenths-below`, `tenths-above`, `tenths-only` of proofs/Laws.antt).
@@ -41,8 +41,8 @@ pub record IsTenths (t d2 : ℕ) : Type 0 where
 unfoldable pub tenthsOf : ℕ → ℕ
 tenthsOf d2 = rootBy 36 (hundred * d2) / sixteenthsIn
 
--- A rule by which a squared distance in sixteenths is told in tenths. The calls go by `tenthsOf`; what is made of a rule
--- is stated over any, so that the rule which this one came after is measured in the same way (crate oldtenths).
+-- A rule by which a squared distance in sixteenths is told in tenths. The calls go by `tenthsOf`. What is made of it is
+-- stated over any rule, so that it can be said of the one before as well (crate oldtenths).
 abbrev pub Rule : Type 0
 Rule = ℕ → ℕ
 
