@@ -21,6 +21,17 @@ use Rattle.calmap.proofs.Rooted as Rooted
 use Rattle.calmap.proofs.Signed.{in32-yes}
 use Rattle.calmap.proofs.Tenths as Tenths
 
+-- Squares.
+
+pub square-le : {a b : ℕ} → a ≤ b → square a ≤ square b
+square-le h = Rooted.square-le h
+
+pub square-next : (r : ℕ) → square r < square (r + 1)
+square-next r = Rooted.square-next r
+
+pub square-times : (k r : ℕ) → square (k * r) ≡ square k * square r
+square-times k r = Rooted.square-times k r
+
 -- The root.
 
 module _ (v : ℕ) (h : v < 2 ^ 64) where

@@ -2,16 +2,24 @@
 use Prim.Native.Nat.{ℕ, zero, suc, _+_, _*_, _/_, _^_, _≤_, _<_, zero-le}
 use mathlib.Core.Path.{_≡_, sym, ap, subst, _∙_}
 use mathlib.Core.Bool.{Bool, true, false, not}
-use native.Mathlib.Nat.{le-trans, lt-of-lt-of-le, lt-of-le-of-lt, zero-lt-suc, lt-of-not-le, not-le-of-lt, le-antisymm, mul-add, add-mul, mul-le-mul, div-lt-iff-lt-mul, div-mul-le-self, pow-suc}
+use native.Mathlib.Nat.{le-trans, lt-of-lt-of-le, lt-of-le-of-lt, zero-lt-suc, lt-of-not-le, not-le-of-lt, le-antisymm, mul-add, add-mul, mul-assoc, mul-comm, mul-le-mul, div-lt-iff-lt-mul, div-mul-le-self, pow-suc}
 use native.Mathlib.Omega.{arith}
 use lib.Dec.{T, leb, leb→le, nleb→lt}
 use Rattle.panel.specs.Tests.{if_then_else_}
 use Rattle.calmap.specs.Roots.{IsRoot, digit, rootBy, rootOf}
 
--- One only.
+-- Squares.
 
 pub square-le : {a b : ℕ} → a ≤ b → a * a ≤ b * b
 square-le h = mul-le-mul h h
+
+pub square-next : (r : ℕ) → r * r < (r + 1) * (r + 1)
+square-next r = omega (arith, add-mul r 1 (r + 1), mul-add r r 1)
+
+pub square-times : (k r : ℕ) → k * r * (k * r) ≡ k * k * (r * r)
+square-times k r = mul-assoc k r (k * r) ∙ ap (λ (x : ℕ). k * x) (mul-comm r (k * r) ∙ mul-assoc k r r) ∙ sym (mul-assoc k k (r * r))
+
+-- One root only.
 
 no-more : (r s v : ℕ) → IsRoot r v → IsRoot s v → r ≤ s
 no-more r s v p q = at-most (λ g. not-le-of-lt (lt-of-lt-of-le (q .above) (square-le g)) (p .below))
@@ -33,10 +41,7 @@ pick true r v f g lo hi = record { below = f tt; above = subst (λ (k : ℕ). v 
 pick false r v f g lo hi = record { below = lo; above = g tt }
 
 pub square-two : (q : ℕ) → 2 * q * (2 * q) ≡ 4 * (q * q)
-square-two q =
-    let e : 2 * q ≡ q + q = omega arith in
-    let f : (q + q) * (q + q) ≡ q * q + q * q + (q * q + q * q) = simp (add-mul, mul-add) in
-    ap (λ (k : ℕ). k * k) e ∙ f ∙ omega arith
+square-two q = square-times 2 q
 
 doubled : (q : ℕ) → 2 * q + 2 ≡ 2 * (q + 1)
 doubled q = omega arith
@@ -58,11 +63,8 @@ module _ (v : ℕ) (h : v < 2 ^ 64) where
 
   -- the root of what is at most a square
   pub root-at-most : (r : ℕ) → v ≤ r * r → rootOf v ≤ r
-  root-at-most r l = at-most (λ g. not-le-of-lt (lt-of-lt-of-le (wider r) (le-trans (square-le g) (root-is .below))) l)
+  root-at-most r l = at-most (λ g. not-le-of-lt (lt-of-lt-of-le (square-next r) (le-trans (square-le g) (root-is .below))) l)
     where
-      wider : (r : ℕ) → r * r < (r + 1) * (r + 1)
-      wider r = omega (arith, add-mul r 1 (r + 1), mul-add r r 1)
-
       at-most : (r + 1 ≤ rootOf v → ⊥) → rootOf v ≤ r
       at-most f = omega (arith, lt-of-not-le f)
 

@@ -1,15 +1,15 @@
 -- `tenthsOf d2` is the largest t with (16t) squared at most 100 times d2, for every d2 of 64 bits, and there is one such t.
 -- The root of 25·d2/64, rounded down, is it too. Assumes nothing.
 use Prim.Native.Nat.{ℕ, _+_, _*_, _/_, _%_, _^_, _≤_, _<_}
-use mathlib.Core.Path.{_≡_, ap, _∙_}
-use native.Mathlib.Nat.{le-trans, lt-of-lt-of-le, lt-of-not-le, not-le-of-lt, le-antisymm, mul-assoc, mul-comm}
+use mathlib.Core.Path.{_≡_}
+use native.Mathlib.Nat.{le-trans, lt-of-lt-of-le, lt-of-not-le, not-le-of-lt, le-antisymm}
 use native.Mathlib.Omega.{arith}
 use lib.Bits.{bitAnd, and-mask}
 use Rattle.calmap.specs.Checked.{farthest, farthestTenths}
 use Rattle.calmap.specs.Distances.{square, IsTenths, tenthsOf}
 use Rattle.calmap.specs.Roots.{IsRoot, rootBy}
 use Rattle.calmap.specs.Sizes.{sixteenthsIn, hundred}
-use Rattle.calmap.proofs.Rooted.{square-le, root-by}
+use Rattle.calmap.proofs.Rooted.{square-le, square-times, root-by}
 
 -- One only.
 
@@ -53,9 +53,6 @@ tenths-of-miss d2 h = tenths-at-most d2 (omega (arith, h)) farthestTenths (omega
 
 -- The root of 25·d2/64.
 
-square-sixteen : (t : ℕ) → square (sixteenthsIn * t) ≡ 256 * (t * t)
-square-sixteen t = mul-assoc 16 t (16 * t) ∙ ap (λ (x : ℕ). 16 * x) (mul-comm t (16 * t) ∙ mul-assoc 16 t t) ∙ omega arith
-
 mask : (d2 : ℕ) → bitAnd d2 63 ≡ d2 % 64
 mask d2 = and-mask d2 6
 
@@ -65,6 +62,6 @@ low-digits d2 = omega (arith, mask d2)
 -- as the code works it out, by shifts and a mask
 pub by-root : (r d2 : ℕ) → IsRoot r (25 * (d2 / 64) + 25 * bitAnd d2 63 / 64) → IsTenths r d2
 by-root r d2 i = record {
-  below = omega (arith, square-sixteen r, mask d2, i .below);
-  above = omega (arith, square-sixteen (r + 1), mask d2, i .above);
+  below = omega (arith, square-times sixteenthsIn r, mask d2, i .below);
+  above = omega (arith, square-times sixteenthsIn (r + 1), mask d2, i .above);
 }

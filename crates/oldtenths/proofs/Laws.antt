@@ -2,14 +2,14 @@
 -- differ is 3, and the smallest squared distance of two places is 13; at exact roots they are the same. Assumes nothing.
 use Prim.Native.Nat.{ℕ, zero, suc, _+_, _*_, _/_, _^_, _≤_, _<_}
 use mathlib.Core.Path.{_≡_, refl, sym, ap, _∙_}
-use native.Mathlib.Nat.{le-refl, le-trans, lt-of-lt-of-le, mul-assoc, mul-comm, mul-le-mul, add-mul, mul-add}
+use native.Mathlib.Nat.{le-refl, le-trans, lt-of-lt-of-le}
 use native.Mathlib.Omega.{arith}
 use Rattle.panel.specs.Tests.{if_then_else_}
 use Rattle.calmap.specs.Checked.{farthest, farthestTenths}
 use Rattle.calmap.specs.Distances.{square, tenthsOf}
 use Rattle.calmap.specs.Roots.{digit, rootBy, rootOf}
 use Rattle.calmap.specs.Sizes.{sixteenthsIn, hundred}
-use Rattle.calmap.proofs.Laws.{root-below, root-above, root-only, root-at-most, tenths-at-least, tenths-at-most, tenths-only}
+use Rattle.calmap.proofs.Laws.{square-le, square-next, square-times, root-below, root-above, root-only, root-at-most, tenths-at-least, tenths-at-most, tenths-only}
 use Rattle.oldtenths.specs.OldTenths.{tenthsIn, oldTenthsOf}
 
 -- a tap's distance from its target is at most 1310720 tenths by them too
@@ -19,15 +19,6 @@ old-of-miss d2 h =
     let l = root-at-most d2 (omega arith) 2097152 h in
     omega arith
 
-square-le : {a b : ℕ} → a ≤ b → square a ≤ square b
-square-le h = mul-le-mul h h
-
-wider : (r : ℕ) → square r < square (r + 1)
-wider r = omega (arith, add-mul r 1 (r + 1), mul-add r r 1)
-
-square-ten : (r : ℕ) → square (tenthsIn * r) ≡ hundred * (r * r)
-square-ten r = mul-assoc 10 r (10 * r) ∙ ap (λ (x : ℕ). 10 * x) (mul-comm r (10 * r) ∙ mul-assoc 10 r r) ∙ omega arith
-
 -- The same, or one less.
 
 module _ (d2 : ℕ) (h : d2 < 2 ^ 64) where
@@ -36,26 +27,26 @@ module _ (d2 : ℕ) (h : d2 < 2 ^ 64) where
   old-at-most =
       let r = rootOf d2 in
       let side : sixteenthsIn * (r * tenthsIn / sixteenthsIn) ≤ tenthsIn * r = omega arith in
-      tenths-at-least d2 h _ (le-trans (square-le side) (omega (arith, square-ten r, root-below d2 h)))
+      tenths-at-least d2 h _ (le-trans (square-le side) (omega (arith, square-times tenthsIn r, root-below d2 h)))
 
   pub one-more-at-most : tenthsOf d2 ≤ oldTenthsOf d2 + 1
   unfolding oldTenthsOf
   one-more-at-most =
       let r = rootOf d2 in
       let side : tenthsIn * (r + 1) ≤ sixteenthsIn * (r * tenthsIn / sixteenthsIn + 1 + 1) = omega arith in
-      tenths-at-most d2 h _ (lt-of-lt-of-le (omega (arith, square-ten (r + 1), root-above d2 h)) (square-le side))
+      tenths-at-most d2 h _ (lt-of-lt-of-le (omega (arith, square-times tenthsIn (r + 1), root-above d2 h)) (square-le side))
 
 -- The same where the root is exact, as those of 401 and 402 of document 01's table are.
 
 pub same-at-roots : (r : ℕ) → r * r < 2 ^ 64 → oldTenthsOf (r * r) ≡ tenthsOf (r * r)
 unfolding oldTenthsOf
 same-at-roots r h =
-    let exact : r ≡ rootOf (r * r) = root-only (r * r) h r (le-refl (r * r)) (wider r) in
+    let exact : r ≡ rootOf (r * r) = root-only (r * r) h r (le-refl (r * r)) (square-next r) in
     let o = r * tenthsIn / sixteenthsIn in
     let least : sixteenthsIn * o ≤ tenthsIn * r = omega arith in
     let most : tenthsIn * r + 1 ≤ sixteenthsIn * (o + 1) = omega arith in
     ap (λ (x : ℕ). x * tenthsIn / sixteenthsIn) (sym exact)
-    ∙ tenths-only (r * r) h o (le-trans (square-le least) (omega (arith, square-ten r))) (lt-of-lt-of-le (omega (arith, wider (tenthsIn * r), square-ten r)) (square-le most))
+    ∙ tenths-only (r * r) h o (le-trans (square-le least) (omega (arith, square-times tenthsIn r))) (lt-of-lt-of-le (omega (arith, square-next (tenthsIn * r), square-times tenthsIn r)) (square-le most))
 
 -- Where they begin to differ.
 
