@@ -6,9 +6,9 @@ use native.Mathlib.Nat.{le-refl, le-trans, lt-of-lt-of-le}
 use native.Mathlib.Omega.{arith}
 use Rattle.panel.specs.Tests.{if_then_else_}
 use Rattle.calmap.specs.Checked.{farthest, farthestTenths}
-use Rattle.calmap.specs.Distances.{square, tenthsOf}
+use Rattle.calmap.specs.Distances.{tenthsOf}
 use Rattle.calmap.specs.Roots.{digit, rootBy, rootOf}
-use Rattle.calmap.specs.Sizes.{sixteenthsIn, hundred}
+use Rattle.calmap.specs.Sizes.{sixteenthsIn}
 use Rattle.calmap.proofs.Laws.{square-le, square-next, square-times, root-below, root-above, root-only, root-at-most, tenths-at-least, tenths-at-most, tenths-only}
 use Rattle.oldtenths.specs.OldTenths.{tenthsIn, oldTenthsOf}
 

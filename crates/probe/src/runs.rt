@@ -1,5 +1,4 @@
 // The calls that nothing lives on of, by their kinds, and the line of any call.
-use crate::args;
 use crate::args::NUMBERS;
 use crate::calibration;
 use crate::geometry;
