@@ -1,23 +1,27 @@
 -- Distances added up, by a rule of tenths: a loop's sum and largest so far, and what the list still holds, make the whole.
--- Assumes nothing.
-use Prim.Native.Nat.{ℕ, suc, _+_, _/_, _<_, max}
-use mathlib.Core.Path.{_≡_, refl, sym, ap, _∙_}
+-- Once for every rule, so that a loop over taps cites four laws. Assumes nothing.
+use Prim.Native.Nat.{ℕ, suc, _+_, _/_, _≤_, _<_, max}
+use mathlib.Core.Path.{_≡_, refl, sym, ap, subst, _∙_}
 use mathlib.Core.List.{List, [], _∷_, map}
 use native.Mathlib.Nat.{add-zero, zero-add, add-assoc, max-zero, zero-max}
 use native.Mathlib.Omega.{arith}
-use lib.ListN.{length, length-map}
+use lib.IntN.{pos}
+use lib.ListN.{length, take, drop, getD, length-map, length-take}
 use Rattle.panel.specs.Centroids.{total, mean}
 use Rattle.panel.specs.declared.refusals.Refusal.the-variants as Refusal
 use Rattle.calmap.specs.Distances.{Rule}
-use Rattle.calmap.specs.Resids.{Misses, known, wide, besides, missOf, missesOf, largest, spread, spreadBy}
+use Rattle.calmap.specs.Resids.{Misses, known, wide, besides, missOf, missesOf, largest, spread, spreadBy, residFirstBy}
+use Rattle.calmap.specs.Sizes.{longest}
 use Rattle.calmap.specs.declared.gaps.Gap as gap
 use Rattle.calmap.specs.declared.gaps.Gap.the-variants.{Squared, Wide}
 use Rattle.calmap.specs.declared.residuals.ResidAnswer.{ResidAnswer}
 use Rattle.calmap.specs.declared.residuals.ResidAnswer.the-variants.{Answered, Refused}
 use Rattle.calmap.specs.declared.units.Cal.{Cal}
 use Rattle.calmap.specs.declared.units.Pair.{Pair}
+use Rattle.calmap.proofs.Firsts.{resid-first}
+use Rattle.calmap.proofs.Walking.{walk-more, walked}
 
-pub misses-cons : (c : Cal) (p : Pair) (ps : List Pair) → missesOf c (p ∷ ps) ≡ besides (missOf c p) (missesOf c ps)
+misses-cons : (c : Cal) (p : Pair) (ps : List Pair) → missesOf c (p ∷ ps) ≡ besides (missOf c p) (missesOf c ps)
 unfolding missesOf
 misses-cons c p ps = refl
 
@@ -47,16 +51,17 @@ module _ (rule : Rule) where
   spreadFrom n s m wide = Refused Refusal.Wide
 
   -- one distance more
-  pub from-more : (n s m d2 : ℕ) (ms : Misses) → spreadFrom n s m (besides (Squared d2) ms) ≡ spreadFrom n (s + rule d2) (max m (rule d2)) ms
+  from-more : (n s m d2 : ℕ) (ms : Misses) → spreadFrom n s m (besides (Squared d2) ms) ≡ spreadFrom n (s + rule d2) (max m (rule d2)) ms
   unfolding total largest
   from-more n s m d2 (known ds) = λ i. Answered (spread (sym (add-assoc s (rule d2) (total (map rule ds))) i / n) (regrouped m (rule d2) (largest (map rule ds)) i))
   from-more n s m d2 wide = refl
 
   -- none left
-  pub from-last : (c : Cal) (n s m : ℕ) → spreadFrom n s m (missesOf c []) ≡ Answered (spread (s / n) m)
+  from-last : (c : Cal) (n s m : ℕ) → spreadFrom n s m (missesOf c []) ≡ Answered (spread (s / n) m)
   unfolding missesOf total largest
   from-last c n s m = λ i. Answered (spread (add-zero s i / n) (max-zero m i))
 
+  -- none looked at yet
   from-first : (ms : Misses) (n : ℕ) → 0 < n → Counts ms n → spreadBy rule ms ≡ spreadFrom n 0 0 ms
   unfolding mean largest
   from-first (known []) n h e = absurd (omega arith)
@@ -65,10 +70,43 @@ module _ (rule : Rule) where
       rw (zero-add, zero-max, many)
   from-first wide n h e = refl
 
-  -- the spread of some taps, before the first is looked at
-  pub spread-from : (c : Cal) (ps : List Pair) (n : ℕ) → 0 < n → length ps ≡ n → spreadBy rule (missesOf c ps) ≡ spreadFrom n 0 0 (missesOf c ps)
-  spread-from c ps n h e = from-first (missesOf c ps) n h (rw (← e) (counted c ps))
-
-  pub spread-none : (c : Cal) → spreadBy rule (missesOf c []) ≡ Answered (spread 0 0)
+  spread-none : (c : Cal) → spreadBy rule (missesOf c []) ≡ Answered (spread 0 0)
   unfolding missesOf mean largest
   spread-none c = refl
+
+  -- no tap at all
+  pub resid-none : (c : Cal) (n : ℕ) (ps : List Pair) → n ≡ 0 → residFirstBy rule c n ps ≡ Answered (spread 0 0)
+  resid-none c n ps e = resid-first rule c n ps (omega (arith, e)) ∙ ap (λ (k : ℕ). spreadBy rule (missesOf c (take k ps))) e ∙ spread-none c
+
+-- A loop over the first n of an array of taps: the distances from the one at place i on.
+
+abbrev pub missesFrom : Cal → ℕ → List Pair → ℕ → Misses
+missesFrom c n ps i = missesOf c (drop i (take n ps))
+
+abbrev pair0 : Pair
+pair0 = record { raw = record { x = pos 0; y = pos 0 }; tgt = record { x = pos 0; y = pos 0 } }
+
+module _ (rule : Rule) (c : Cal) (n : ℕ) (ps : List Pair) (held : n ≤ length ps) where
+  -- before the first turn
+  pub loop-first : 0 < n → n ≤ longest → residFirstBy rule c n ps ≡ spreadFrom rule n 0 0 (missesFrom c n ps 0)
+  loop-first some short =
+      let many : length (take n ps) ≡ n = rw length-take (omega (arith, held)) in
+      resid-first rule c n ps short ∙ from-first rule (missesOf c (take n ps)) n some (subst (Counts (missesOf c (take n ps))) many (counted c (take n ps)))
+
+  -- a turn: the miss at hand, and those after it
+  module _ (i s m : ℕ) (g : gap.Gap) (more : i < n) (is : g ≡ missOf c (getD ps i pair0)) where
+    turn : spreadFrom rule n s m (missesFrom c n ps i) ≡ spreadFrom rule n s m (besides g (missesFrom c n ps (i + 1)))
+    turn = ap (spreadFrom rule n s m) (walk-more (missesOf c) (λ p r. besides (missOf c p) r) (misses-cons c) ps n i pair0 more held ∙ ap (λ (x : gap.Gap). besides x (missesFrom c n ps (i + 1))) (sym is))
+
+    pub loop-next : (d2 t : ℕ) → g ≡ Squared d2 → t ≡ rule d2 → spreadFrom rule n s m (missesFrom c n ps i) ≡ spreadFrom rule n (s + t) (max m t) (missesFrom c n ps (i + 1))
+    loop-next d2 t e told =
+        turn ∙ ap (λ (x : gap.Gap). spreadFrom rule n s m (besides x (missesFrom c n ps (i + 1)))) e ∙ from-more rule n s m d2 (missesFrom c n ps (i + 1))
+        ∙ ap (λ (x : ℕ). spreadFrom rule n (s + x) (max m x) (missesFrom c n ps (i + 1))) (sym told)
+
+    pub loop-stops : g ≡ Wide → spreadFrom rule n s m (missesFrom c n ps i) ≡ Refused Refusal.Wide
+    loop-stops e = turn ∙ ap (λ (x : gap.Gap). spreadFrom rule n s m (besides x (missesFrom c n ps (i + 1)))) e
+
+  -- behind the last
+  pub loop-ends : (i s m : ℕ) → i ≡ n → spreadFrom rule n s m (missesFrom c n ps i) ≡ Answered (spread (s / n) m)
+  loop-ends i s m e =
+      ap (λ (k : ℕ). spreadFrom rule n s m (missesFrom c n ps k)) e ∙ ap (λ (qs : List Pair). spreadFrom rule n s m (missesOf c qs)) (walked ps n held) ∙ from-last rule c n s m

@@ -1,19 +1,16 @@
 -- `oldtenths::residuals::old_resid_of` meets its contract: the loop's sum and largest, and the distances still to come, make the
--- whole. Assumes nothing.
-use Prim.Native.Nat.{ℕ, _+_, _*_, _-_, _≤_, _<_, max}
-use mathlib.Core.Path.{_≡_, refl, sym, ap, subst, _∙_}
+-- whole (calmap's Tallying). Assumes nothing.
+use Prim.Native.Nat.{ℕ, _+_, _*_, _-_, _≤_}
+use mathlib.Core.Path.{_≡_, sym, ap, subst, _∙_}
 use native.Mathlib.Omega.{arith}
-use lib.IntN.{pos}
-use lib.ListN.{take, drop, length-take}
+use lib.ListN.{length}
 use borrow.Author.Needs.{needs}
 use Rattle.calmap.specs.Checked.{farthest, farthestTenths, squareIn}
-use Rattle.calmap.specs.Resids.{Misses, besides, missOf, missesOf, spreadBy, residFirstBy}
+use Rattle.calmap.specs.Resids.{residFirstBy}
 use Rattle.calmap.specs.declared.gaps.Gap.{Gap}
-use Rattle.calmap.specs.declared.units.Pair.{Pair}
 use Rattle.calmap.specs.declared.units.Tenths.{Tenths}
-use Rattle.calmap.proofs.Firsts.{resid-long, resid-first}
-use Rattle.calmap.proofs.Tallying.{misses-cons, spreadFrom, from-more, from-last, spread-from, spread-none}
-use Rattle.calmap.proofs.Walking.{walk-more, walked}
+use Rattle.calmap.proofs.Firsts.{resid-long}
+use Rattle.calmap.proofs.Tallying.{spreadFrom, missesFrom, resid-none, loop-first, loop-next, loop-stops, loop-ends}
 use Rattle.oldtenths.specs.OldTenths.{oldTenthsOf}
 use Rattle.oldtenths.proofs.Laws.{old-of-miss}
 use Rattle.oldtenths.proofs.residuals.old_resid_of.Statement.{statement}
@@ -21,43 +18,20 @@ use Rattle.oldtenths.proofs.residuals.old_resid_of.Tie as tie
 
 abbrev Inv-loop : tie.InvT-loop
 Inv-loop c n pairs sum₀ most₀ i₀ sum most i =
-    (i ≤ n) × (sum ≤ farthestTenths * i) × (spreadFrom oldTenthsOf n 0 0 (missesOf c (take n pairs)) ≡ spreadFrom oldTenthsOf n sum most (missesOf c (drop i (take n pairs))))
+    (i ≤ n) × (sum ≤ farthestTenths * i) × (residFirstBy oldTenthsOf c n pairs ≡ spreadFrom oldTenthsOf n sum most (missesFrom c n pairs i))
 
 abbrev μ-loop : tie.MeasureT-loop
 μ-loop c n pairs sum₀ most₀ i₀ sum most i = n - i
-
-abbrev pair0 : Pair
-pair0 = record { raw = record { x = pos 0; y = pos 0 }; tgt = record { x = pos 0; y = pos 0 } }
 
 returns : tie.Need-returns Inv-loop μ-loop
 returns c = sym (resid-long _ _ _ _ (c .if1 .taken))
 
 returns-2 : tie.Need-returns-2 Inv-loop μ-loop
-returns-2 c =
-    let s = c .before .before .args in
-    sym (resid-first oldTenthsOf (s .c) (s .n) (s .t2) (c .before .if1 .left) ∙ ap (λ (k : ℕ). spreadBy oldTenthsOf (missesOf (s .c) (take k (s .t2)))) (c .if2 .taken) ∙ spread-none oldTenthsOf (s .c))
+returns-2 c = sym (resid-none oldTenthsOf _ _ _ (c .if2 .taken))
 
--- the answer, once there is a tap to look at: what the loop has and what is still to come
-whole : (l : tie.At-loop Inv-loop μ-loop) → residFirstBy oldTenthsOf (l .before .before .before .args .c) (l .before .before .before .args .n) (l .before .before .before .args .t2) ≡ spreadFrom oldTenthsOf (l .before .before .before .args .n) 0 0 (missesOf (l .before .before .before .args .c) (take (l .before .before .before .args .n) (l .before .before .before .args .t2)))
-whole l =
-    let s = l .before .before .before .args in
-    let some : 0 < s .n = omega (arith, l .before .if2 .left) in
-    resid-first oldTenthsOf (s .c) (s .n) (s .t2) (l .before .before .if1 .left) ∙ spread-from oldTenthsOf (s .c) (take (s .n) (s .t2)) (s .n) some (rw length-take (omega arith))
-
--- the distances after the one at hand
-abbrev rest : tie.After-miss Inv-loop μ-loop → Misses
-rest m =
-    let l = m .before .before .before in
-    let s = l .before .before .before .args in
-    missesOf (s .c) (drop (l .loop .i + 1) (take (s .n) (s .t2)))
-
--- a turn: the distance at hand, and those after it
-turn : (m : tie.After-miss Inv-loop μ-loop) → spreadFrom oldTenthsOf (m .before .before .before .before .before .before .args .n) 0 0 (missesOf (m .before .before .before .before .before .before .args .c) (take (m .before .before .before .before .before .before .args .n) (m .before .before .before .before .before .before .args .t2))) ≡ spreadFrom oldTenthsOf (m .before .before .before .before .before .before .args .n) (m .before .before .before .loop .sum) (m .before .before .before .loop .most) (besides (m .miss .result) (rest m))
-turn m =
-    let l = m .before .before .before in
-    let s = l .before .before .before .args in
-    let more = walk-more (missesOf (s .c)) (λ p r. besides (missOf (s .c) p) r) (misses-cons (s .c)) (s .t2) (s .n) (l .loop .i) pair0 (omega arith) (omega arith) in
-    l .loop .inv .2 ∙ ap (spreadFrom oldTenthsOf (s .n) (l .loop .sum) (l .loop .most)) (more ∙ ap (λ (g : Gap). besides g (rest m)) (sym (m .miss .ensures .0)))
+-- the array has as many
+held : (e : tie.Else2 Inv-loop μ-loop) → e .before .before .args .n ≤ length (e .before .before .args .t2)
+held e = omega arith
 
 -- a distance is not far
 near : (t : tie.After-in-old-tenths Inv-loop μ-loop) → t .in-old-tenths .result .0 ≤ farthestTenths
@@ -67,7 +41,9 @@ near t =
     rw (t .in-old-tenths .ensures) (old-of-miss (d2 .0 .0) far)
 
 loop-holds : tie.Need-loop-holds Inv-loop μ-loop
-loop-holds c = (omega arith, omega arith, refl)
+loop-holds c =
+    let s = c .before .before .args in
+    (omega arith, omega arith, loop-first oldTenthsOf (s .c) (s .n) (s .t2) (held c) (omega (arith, c .if2 .left)) (c .before .if1 .left))
 
 mul-p : tie.Need-mul-p Inv-loop μ-loop
 mul-p c = search needs
@@ -88,7 +64,8 @@ returns-3 : tie.Need-returns-3 Inv-loop μ-loop
 returns-3 c =
     let m = c .before .before in
     let l = m .before .before .before in
-    sym (whole l ∙ turn m ∙ ap (λ (g : Gap). spreadFrom oldTenthsOf (l .before .before .before .args .n) (l .loop .sum) (l .loop .most) (besides g (rest m))) (c .enum-told .given .1))
+    let s = l .before .before .before .args in
+    sym (l .loop .inv .2 ∙ loop-stops oldTenthsOf (s .c) (s .n) (s .t2) (held (l .before)) (l .loop .i) (l .loop .sum) (l .loop .most) (m .miss .result) (omega arith) (m .miss .ensures .0) (c .enum-told .given .1))
 
 in-old-tenths-requires : tie.Need-in-old-tenths-requires Inv-loop μ-loop
 in-old-tenths-requires c κs = search needs
@@ -113,15 +90,12 @@ loop-again c =
     let d2 = t .before .before .d2 .given in
     let m = t .before .before .before .before in
     let l = m .before .before .before in
-    let n = l .before .before .before .args .n in
-    let s = l .loop .sum in
-    let k = l .loop .most in
+    let s = l .before .before .before .args in
     let d = near t in
-    let told : oldTenthsOf (d2 .0 .0) ≡ t .in-old-tenths .result .0 = ap (λ (x : Tenths). x .0) (sym (t .in-old-tenths .ensures)) in
-    let most = ap (max k) told ∙ sym (c .larger .ensures) in (
+    let next = loop-next oldTenthsOf (s .c) (s .n) (s .t2) (held (l .before)) (l .loop .i) (l .loop .sum) (l .loop .most) (m .miss .result) (omega arith) (m .miss .ensures .0) (d2 .0 .0) (t .in-old-tenths .result .0) (d2 .1) (ap (λ (x : Tenths). x .0) (t .in-old-tenths .ensures)) in (
       omega arith,
       omega arith,
-      turn m ∙ ap (λ (g : Gap). spreadFrom oldTenthsOf n s k (besides g (rest m))) (d2 .1) ∙ from-more oldTenthsOf n s k (d2 .0 .0) (rest m) ∙ (λ j. spreadFrom oldTenthsOf n (s + told j) (most j) (rest m)),
+      l .loop .inv .2 ∙ next ∙ ap (λ (k : ℕ). spreadFrom oldTenthsOf (s .n) (l .loop .sum + t .in-old-tenths .result .0) k (missesFrom (s .c) (s .n) (s .t2) (l .loop .i + 1))) (sym (c .larger .ensures)),
     )
 
 cast-t23 : tie.Need-cast-t23 Inv-loop μ-loop
@@ -134,10 +108,7 @@ returns-4 : tie.Need-returns-4 Inv-loop μ-loop
 returns-4 c =
     let l = c .before in
     let s = l .before .before .before .args in
-    let e : l .loop .i ≡ s .n = omega arith in
-    let left = spreadFrom oldTenthsOf (s .n) (l .loop .sum) (l .loop .most) in
-    sym (whole l ∙ l .loop .inv .2 ∙ ap (λ (k : ℕ). left (missesOf (s .c) (drop k (take (s .n) (s .t2))))) e
-    ∙ ap (λ ps. left (missesOf (s .c) ps)) (walked (s .t2) (s .n) (omega arith)) ∙ from-last oldTenthsOf (s .c) (s .n) (l .loop .sum) (l .loop .most))
+    sym (l .loop .inv .2 ∙ loop-ends oldTenthsOf (s .c) (s .n) (s .t2) (held (l .before)) (l .loop .i) (l .loop .sum) (l .loop .most) (omega arith))
 
 pub old-resid-of-spec : {M : Type 1} → statement M
 old-resid-of-spec =
