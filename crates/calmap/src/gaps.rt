@@ -35,7 +35,7 @@ pub fn gap_between(ax: Sixteenths, ay: Sixteenths, bx: Sixteenths, by: Sixteenth
 }
 
 // A squared distance in sixteenths of a pixel, as a distance in tenths: the largest t with 16t * 16t <= 100 * d2, which
-// is t * t <= 25 * d2 / 64. That is less than d2, and is worked out so that no product on the way to it passes 64 bits.
+// is t * t <= 25 * d2 / 64. That is no more than d2, and is worked out so that no product on the way to it passes 64 bits.
 pub(crate) fn in_tenths(d2: u64) -> Tenths
     ensures { λ r. ⌜ r ≡ tenths (tenthsOf d2) ⌝ }
 {
