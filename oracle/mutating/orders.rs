@@ -5,8 +5,14 @@ use crate::sites::Mutant;
 const PUBLISHED: &str = "docs/src/firmware/src";
 const OWN: &str = "oracle/src";
 
+/// What stands in fit between LONG and the Rust's answer.
+const BEHIND_LONG: &str = "    if !targets.iter().all(|&(x, y)| on_panel(Point { x, y })) {
+        return Err(alone(TARGET));
+    }
+    // where";
+
 /// Folder, file, what is wrong, the text as it stands, the wrong one.
-const ORDERS: [(&str, &str, &str, &str, &str); 13] = [
+const ORDERS: [(&str, &str, &str, &str, &str); 19] = [
     (
         OWN,
         "numbers.rs",
@@ -73,35 +79,69 @@ const ORDERS: [(&str, &str, &str, &str, &str); 13] = [
         "answers.rs",
         "TARGET before LONG in fit",
         "    if raw.len().min(tgt.len()) > LIST_MOST || targets.len() > LIST_MOST {
-        return Err(LONG);
+        return Err(alone(LONG));
     }
     if !targets.iter().all(|&(x, y)| on_panel(Point { x, y })) {
-        return Err(TARGET);
+        return Err(alone(TARGET));
     }
 ",
         "    if !targets.iter().all(|&(x, y)| on_panel(Point { x, y })) {
-        return Err(TARGET);
+        return Err(alone(TARGET));
     }
     if raw.len().min(tgt.len()) > LIST_MOST || targets.len() > LIST_MOST {
-        return Err(LONG);
+        return Err(alone(LONG));
     }
 ",
     ),
     (
         OWN,
         "answers.rs",
-        "NOFIT before TARGET in fit",
-        "    if !targets.iter().all(|&(x, y)| on_panel(Point { x, y })) {
-        return Err(TARGET);
-    }
-    // where",
-        "    if tried(|| touchcal::fit(raw, tgt, &[]).is_none()) == Some(true) {
-        return Err(NOFIT);
+        "FEW before TARGET in fit",
+        BEHIND_LONG,
+        "    if let Some(why) = unfit(raw, tgt).filter(|why| why.0 == FEW) {
+        return Err(why);
     }
     if !targets.iter().all(|&(x, y)| on_panel(Point { x, y })) {
-        return Err(TARGET);
+        return Err(alone(TARGET));
     }
     // where",
+    ),
+    (
+        OWN,
+        "answers.rs",
+        "LINE before TARGET in fit",
+        BEHIND_LONG,
+        "    if let Some(why) = unfit(raw, tgt).filter(|why| why.0 == LINE) {
+        return Err(why);
+    }
+    if !targets.iter().all(|&(x, y)| on_panel(Point { x, y })) {
+        return Err(alone(TARGET));
+    }
+    // where",
+    ),
+    (
+        OWN,
+        "answers.rs",
+        "STEEP before TARGET in fit",
+        BEHIND_LONG,
+        "    if let Some(why) = unfit(raw, tgt).filter(|why| why.0 == STEEP) {
+        return Err(why);
+    }
+    if !targets.iter().all(|&(x, y)| on_panel(Point { x, y })) {
+        return Err(alone(TARGET));
+    }
+    // where",
+    ),
+    // fewer than three pairs are on one line, and of taps on one line no coefficient is in reach
+    (OWN, "answers.rs", "LINE before FEW in fit", "Err(Way::Few) => Some(alone(FEW)),", "Err(Way::Few) => Some(alone(LINE)),"),
+    (OWN, "answers.rs", "STEEP before LINE in fit", "Err(Way::Line) => Some(alone(LINE)),", "Err(Way::Line) => Some((STEEP, 0.to_string())),"),
+    (OWN, "answers.rs", "the last coefficient beyond q16 is told", "steps.iter().position(", "steps.iter().rposition("),
+    (
+        PUBLISHED,
+        "touchcal.rs",
+        "d comes before c in fit",
+        "q16(b)?, q16(c)?, q16(d)?, q16(e - 1.0)?",
+        "q16(b)?, q16(d)?, q16(c)?, q16(e - 1.0)?",
     ),
     (
         OWN,

@@ -5,7 +5,7 @@ use crate::image;
 use crate::numbers::{unfolded, Reader, Stop};
 use crate::tenths::{self, Measured};
 use crate::touch::{self, Event, Point};
-use crate::touchcal::{self, Bad, Cal};
+use crate::touchcal::{self, Bad, Cal, Way};
 use crate::trace::{on_panel, report_ok};
 use std::cell::Cell;
 use std::io::Write;
@@ -16,10 +16,12 @@ const PANEL: u8 = 2;
 const WIDE: u8 = 3;
 const LONG: u8 = 4;
 const TARGET: u8 = 5;
-const NOFIT: u8 = 6;
+const FEW: u8 = 6;
 const HUGE: u8 = 7;
 const KIND: u8 = 12;
 const FILE: u8 = 13;
+const LINE: u8 = 16;
+const STEEP: u8 = 17;
 
 const MOST_8: u64 = 255;
 const MOST_16: u64 = 65_535;
@@ -271,7 +273,7 @@ impl Side {
                 let (raw, tgt, targets) = (taps(r)?, taps(r)?, targets(r)?);
                 self.calls += 1;
                 match fit(kind == 49, &raw, &tgt, &targets) {
-                    Err(why) => self.line(why, ""),
+                    Err((why, place)) => self.line(why, &place),
                     Ok(v) => self.line(0, &v),
                 }
             }
@@ -441,16 +443,38 @@ fn verdict(b: Option<Bad>) -> &'static str {
     }
 }
 
+/// A refusal of fit, and what it carries.
+type Refused = (u8, String);
+
+fn alone(why: u8) -> Refused {
+    (why, String::new())
+}
+
+/// Why the Rust's fit is `None`, by request [2]: "6 becomes FEW, 16 LINE, 17 STEEP .. STEEP alone carries a value, the
+/// coefficient's place", "which of the six came first in order a to f".
+fn unfit(raw: &[(i16, i16)], tgt: &[(i16, i16)]) -> Option<Refused> {
+    match touchcal::ways(raw, tgt) {
+        Err(Way::Few) => Some(alone(FEW)),
+        Err(Way::Line) => Some(alone(LINE)),
+        Ok(steps) => steps.iter().position(Option::is_none).map(|place| (STEEP, place.to_string())),
+    }
+}
+
 /// The Rust's fit, with its own numbers or measured by the tenths of request [6].
-fn fit(old: bool, raw: &[(i16, i16)], tgt: &[(i16, i16)], targets: &[(u16, u16)]) -> Result<String, u8> {
+fn fit(old: bool, raw: &[(i16, i16)], tgt: &[(i16, i16)], targets: &[(u16, u16)]) -> Result<String, Refused> {
     if raw.len().min(tgt.len()) > LIST_MOST || targets.len() > LIST_MOST {
-        return Err(LONG);
+        return Err(alone(LONG));
     }
     if !targets.iter().all(|&(x, y)| on_panel(Point { x, y })) {
-        return Err(TARGET);
+        return Err(alone(TARGET));
     }
     // where it panics it does so in resid: what passes its check's scales is too small for the check's sums to leave i32
-    let f = tried(|| touchcal::fit(raw, tgt, targets)).ok_or(WIDE)?.ok_or(NOFIT)?;
+    let f = tried(|| touchcal::fit(raw, tgt, targets)).ok_or_else(|| alone(WIDE))?;
+    let f = match (f, unfit(raw, tgt)) {
+        (Some(f), None) => f,
+        (None, Some(why)) => return Err(why),
+        _ => panic!("fit is None, and not by one of its three ways"),
+    };
     let m = if old {
         Measured { mean: f.mean, max: f.max, before: f.before, bad: f.bad }
     } else {

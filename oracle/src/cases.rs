@@ -34,13 +34,20 @@ fn written(label: &str) -> Option<Call> {
         "dist10" => [vec![13], signed(&[numbers[0], numbers[1], 0, 0])].concat(),
         "fit" => {
             let corners = |by: i64| signed(&[by, 0, 100 + by, 0, by, 100, 100 + by, 100]);
-            let onto = match numbers[..] {
-                [by] => corners(by),
-                // two of them, opposite ones
-                [x, y] => signed(&[x, y, 100, 0, 0, 100, 100 + x, 100 + y]),
-                _ => return None,
+            let fit = |raw: Vec<u64>, onto: Vec<u64>| {
+                let n = raw.len() as u64 / 2;
+                [vec![19, n], raw, vec![n], onto, vec![1, 240, 160]].concat()
             };
-            [vec![19, 4], corners(0), vec![4], onto, vec![1, 240, 160]].concat()
+            match numbers[..] {
+                [by] => fit(corners(0), corners(by)),
+                // two of them, opposite ones
+                [x, y] => fit(corners(0), signed(&[x, y, 100, 0, 0, 100, 100 + x, 100 + y])),
+                // taps onto as many
+                _ => {
+                    let (raw, onto) = numbers.split_at(numbers.len() / 2);
+                    fit(signed(raw), signed(onto))
+                }
+            }
         }
         _ => return None,
     })
@@ -54,7 +61,8 @@ fn answered(side: &mut Side, c: &Call) -> String {
     let (_, rest) = line.split_once(' ').unwrap();
     let (refusal, values) = rest.split_once(' ').unwrap_or((rest, ""));
     if refusal != "0" {
-        return format!("refused {refusal}");
+        // of a tracker's call there is more on the line; STEEP alone carries a value
+        return if refusal == "17" { format!("refused {rest}") } else { format!("refused {refusal}") };
     }
     let gesture = values.split(" | ").next().unwrap();
     match gesture.strip_suffix("Ok") {

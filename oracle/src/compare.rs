@@ -1,7 +1,8 @@
 //! Both sides on the same inputs, line by line; and, where they differ, the smallest input that shows it.
 use crate::answers::Side;
 use crate::chosen::text_of;
-use crate::inputs::{any_load, by_old_tenths, bytes_of, damaged, plain, trace_of, Call, Dice, Hand};
+use crate::inputs::{any_load, by_old_tenths, bytes_of, crowded, damaged, plain, trace_of, Call, Dice, Hand};
+use crate::numbers::folded;
 use crate::play::played;
 use std::io::Write;
 use std::process::{Command, Stdio};
@@ -159,7 +160,7 @@ fn batch(d: &mut Dice, left: &mut [u64], tracker: &mut u64) -> (Vec<Call>, Side)
         if k < PLAIN.len() {
             if left[k] > 0 {
                 left[k] -= 1;
-                let c = plain(d, PLAIN[k]);
+                let c = if PLAIN[k] == 19 && d.one_in(2) { crowded(d) } else { plain(d, PLAIN[k]) };
                 for c in by_old_tenths(&c).into_iter().chain([c]) {
                     side.make(&bytes_of(std::slice::from_ref(&c)));
                     calls.push(c);
@@ -252,7 +253,7 @@ pub fn compared(p: &Programs, n: u64, seed: u64) -> Tally {
 }
 
 /// Short inputs, all of them: traces of at most one byte behind the version, runs of one byte, the roots, the axes,
-/// distances by both tenths, and the key masks.
+/// distances by both tenths, the fits of three taps, and the key masks.
 pub fn exhausted(p: &Programs) -> Tally {
     let mut t = Tally { calls: 0, records: 0, runs: 0 };
     play_held(p, &[], &mut t);
@@ -272,6 +273,25 @@ pub fn exhausted(p: &Programs) -> Tally {
     // short ones, and those around the limit of a fit
     for (x, y) in (0..97 * 97).map(|k| (k / 97, k % 97)).chain((0..10 * 100).map(|k| (2 * (395 + k / 100), 2 * (k % 100)))) {
         calls.extend([13, 43].map(|kind| vec![kind, x, y, 0, 0]));
+    }
+    // three taps of which each is one of nine, onto targets by which each coefficient in turn is beyond its steps
+    for k in 0..9 * 9 * 9 {
+        let at = [k % 9, k / 9 % 9, k / 81].map(|i| [i % 3, i / 3]);
+        let raw = at.iter().flatten().map(|&v| folded(v));
+        let far = |v: i64| (30_518 * v - 30_000).min(32_767);
+        let onto: [&dyn Fn([i64; 2]) -> [i64; 2]; 7] = [
+            &|p| p,
+            &|[x, y]| [far(x), y],
+            &|[_, y]| [far(y), y],
+            &|_| [30_518, 0],
+            &|[x, _]| [x, far(x)],
+            &|[x, y]| [x, far(y)],
+            &|[x, _]| [x, 30_518],
+        ];
+        for f in onto {
+            let tgt = at.iter().flat_map(|&p| f(p)).map(folded);
+            calls.push([19, 3].into_iter().chain(raw.clone()).chain([3]).chain(tgt).chain([1, 240, 160]).collect());
+        }
     }
     let input = bytes_of(&calls);
     t.calls += held(p, &input, &Side::new().run(&input), Some(&calls));

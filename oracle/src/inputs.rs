@@ -161,6 +161,35 @@ fn taps_near(d: &mut Dice) -> (Vec<u64>, Vec<u64>) {
     (raw, tgt)
 }
 
+/// A fit of taps that are close together, or on one line, onto targets that are far apart: each of the three ways to no fit,
+/// and both sides of each. Along each axis the targets are in one place, or as far apart as the taps are along x or y.
+pub fn crowded(d: &mut Dice) -> Call {
+    let n = d.of(&[0, 1, 2, 2, 3, 3, 3, 3, 4, 5, 9]);
+    let size = d.of(&[1, 2, 2, 3, 5, 40]);
+    let (kind, factor, from) = (
+        [(); 2].map(|()| d.under(5)),
+        [(); 2].map(|()| d.of(&[-30_517, -30_516, 30_517, 30_518, 30_519, 65_535, 1, 0])),
+        [(); 2].map(|()| d.of(&[0, 0, -30_517, 30_517, 30_518, -30_518, -32_768, 32_767])),
+    );
+    let (mut raw, mut tgt) = (vec![n as u64], vec![n as u64]);
+    for _ in 0..n {
+        let at = [d.between(0, size), d.between(0, size)];
+        raw.extend(at.map(folded));
+        for k in 0..2 {
+            let v = match kind[k] {
+                0 => from[k],
+                1 => from[k] + factor[k] * at[0],
+                2 => from[k] + factor[k] * at[1],
+                3 => from[k] + factor[k] * (at[0] - at[1]),
+                _ => any16(d),
+            };
+            tgt.push(folded(v.clamp(-32_768, 32_767)));
+        }
+    }
+    let targets = if d.one_in(10) { targets(d) } else { vec![1, d.under(480), d.under(320)] };
+    [vec![19], raw, tgt, targets].concat()
+}
+
 /// One call of a kind under 30.
 pub fn plain(d: &mut Dice, kind: u64) -> Call {
     let mut c = vec![kind];

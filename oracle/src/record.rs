@@ -1,9 +1,9 @@
 //! The calls of the recorded answers: every kind, and histories until every gesture, every note of the log and
-//! every refusal of the probe has come; then the chosen ones.
+//! every refusal of document 01 has come; then fits that fail each way, and the chosen ones.
 use crate::answers::Side;
 use crate::chosen;
 use crate::compare::PLAIN;
-use crate::inputs::{any_load, by_old_tenths, bytes_of, plain, Call, Dice, Hand};
+use crate::inputs::{any_load, by_old_tenths, bytes_of, crowded, plain, Call, Dice, Hand};
 
 const OF_EACH: usize = 120;
 const HISTORIES: usize = 120;
@@ -45,6 +45,11 @@ pub fn calls(seed: u64) -> Vec<u8> {
         let text = String::from_utf8(side.ended()).unwrap();
         let refusals = (1..=7).all(|r| text.lines().any(|l| l.split(' ').nth(1) == Some(&r.to_string())));
         if refusals && SHOWN.iter().all(|w| text.contains(w)) && text.contains(" Resid\n") {
+            for _ in 0..OF_EACH {
+                let c = crowded(&mut d);
+                let old = by_old_tenths(&c);
+                calls.extend(std::iter::once(c).chain(old));
+            }
             calls.extend(chosen::histories());
             return bytes_of(&calls);
         }

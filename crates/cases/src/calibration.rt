@@ -1,5 +1,5 @@
-// The calibration: where a correction is too large, distances on both sides of a tenth, and the fit of four corners onto
-// themselves, moved.
+// The calibration: where a correction is too large, distances on both sides of a tenth, the fit of four corners onto
+// themselves, moved, and taps that have no fit.
 use crate::print;
 use calmap::Cal;
 use calmap::CheckAnswer;
@@ -11,6 +11,8 @@ use calmap::Tap;
 use calmap::Tenths;
 use calmap::Verdict;
 use panel::Point;
+use panel::Refusal;
+use touchcal::CoefPlace;
 use touchcal::Fit;
 use touchcal::FitAnswer;
 
@@ -127,13 +129,20 @@ fn fitted(f: Fit) {
     verdict(v);
 }
 
-// The fit of these corners, held against one target.
-fn fit(pairs: [Pair; 64]) {
+// The refusal that carries a value: a coefficient is too large, and which.
+fn steep(p: CoefPlace) {
+    print::refusal(Refusal::Steep);
+    print::byte(p.0);
+}
+
+// The fit of the first n of these pairs, held against one target.
+fn fit(pairs: [Pair; 64], n: usize) {
     print::gives();
     let targets = [Point { x: 240, y: 160 }; 64];
-    match touchcal::fit_of(pairs, 4, targets, 1) {
+    match touchcal::fit_of(pairs, n, targets, 1) {
         FitAnswer::Answered(f) => fitted(f),
         FitAnswer::Refused(r) => print::refusal(r),
+        FitAnswer::Steep(p) => steep(p),
     }
     print::end();
 }
@@ -141,14 +150,14 @@ fn fit(pairs: [Pair; 64]) {
 fn moved(by: u64, pairs: [Pair; 64]) {
     print::word(b"fit, corners moved by");
     print::number(by);
-    fit(pairs);
+    fit(pairs, 4);
 }
 
 fn two_moved(by: u64, down: u64, pairs: [Pair; 64]) {
     print::word(b"fit, two corners moved by");
     print::number(by);
     print::number(down);
-    fit(pairs);
+    fit(pairs, 4);
 }
 
 pub(crate) fn fits() {
@@ -156,4 +165,68 @@ pub(crate) fn fits() {
     moved(40, corners(40, 140));
     two_moved(50, 4, two_corners(50, 4, 150, 104));
     two_moved(50, 5, two_corners(50, 5, 150, 105));
+}
+
+fn coordinate(v: i16) {
+    print::signed(v as i32);
+}
+
+fn tap(t: Tap) {
+    coordinate(t.x);
+    coordinate(t.y);
+}
+
+// Two taps, and where they should have been.
+fn of_two(a: Pair, b: Pair) {
+    print::word(b"fit,");
+    tap(a.raw);
+    tap(b.raw);
+    print::word(b" onto");
+    tap(a.tgt);
+    tap(b.tgt);
+    let mut pairs = [a; 64];
+    pairs[1] = b;
+    fit(pairs, 2);
+}
+
+fn of_three(a: Pair, b: Pair, c: Pair) {
+    print::word(b"fit,");
+    tap(a.raw);
+    tap(b.raw);
+    tap(c.raw);
+    print::word(b" onto");
+    tap(a.tgt);
+    tap(b.tgt);
+    tap(c.tgt);
+    let mut pairs = [a; 64];
+    pairs[1] = b;
+    pairs[2] = c;
+    fit(pairs, 3);
+}
+
+// The taps (0, 0), (2, 0) and (0, 2), and where these should have been.
+fn spread(u0: i16, v0: i16, u1: i16, v1: i16, u2: i16, v2: i16) {
+    of_three(corner(0, 0, u0, v0), corner(2, 0, u1, v1), corner(0, 2, u2, v2));
+}
+
+// Why a fit fails, by the smallest taps: two; three on one line; three too close together, along both axes, along x,
+// along y. Then a coefficient beyond its steps, a to f, the targets one short of it in front of the first and the third;
+// and where several are, b and d, e and f, all six, the first of them.
+pub(crate) fn unfits() {
+    of_two(corner(0, 0, 0, 0), corner(2, 0, 2, 0));
+    of_three(corner(0, 0, 0, 0), corner(1, 1, 1, 1), corner(2, 2, 2, 2));
+    of_three(corner(0, 0, 0, 0), corner(1, 0, 1, 0), corner(0, 1, 0, 1));
+    of_three(corner(0, 0, 0, 0), corner(1, 0, 1, 0), corner(0, 2, 0, 2));
+    of_three(corner(0, 0, 0, 0), corner(2, 0, 2, 0), corner(0, 1, 0, 1));
+    spread(-30517, 0, 30520, 0, -30517, 2);
+    spread(-30517, 0, 30521, 0, -30517, 2);
+    spread(-30517, 0, -30515, 0, 30519, 2);
+    spread(30517, 0, 30519, 0, 30517, 2);
+    spread(30518, 0, 30520, 0, 30518, 2);
+    spread(0, -30517, 2, 30519, 0, -30515);
+    spread(0, -30517, 2, -30517, 0, 30521);
+    spread(0, 30518, 2, 30518, 0, 30520);
+    spread(-30517, -30517, -30515, 30519, 30519, -30515);
+    spread(0, -30518, 2, -30518, 0, 30520);
+    spread(-32768, -32768, 32767, 32767, 32767, 32767);
 }

@@ -14,6 +14,7 @@ fn main() {
     calibration::checks();
     calibration::distances();
     calibration::fits();
+    calibration::unfits();
     tracker::trace();
     tracker::swipes();
     tracker::slop();

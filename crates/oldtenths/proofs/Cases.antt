@@ -13,12 +13,12 @@ use Rattle.calmap.specs.Checks.{mild, scaleHolds, near, stays, allStay, verdict
 use Rattle.calmap.specs.declared.limits.Verdict.the-variants.{Pass}
 use Rattle.touchcal.specs.Floats.{inReach, halfAway, nearestStep, q16Of, inSteps, stepsOf}
 use Rattle.touchcal.specs.Moments.{placeOf, addPair, sharedOf, addAbout, momentsOf}
-use Rattle.touchcal.specs.Solutions.{detOf, spreads, coefsOf, deltasOf, solvedOf}
+use Rattle.touchcal.specs.Solutions.{detOf, spreads, coefsOf, deltasOf, steppedOf, solvedOf}
 use Rattle.touchcal.specs.Fits.{fitBy}
 use Rattle.touchcal.specs.declared.fitting.FitAnswer.the-variants.{Answered}
 use Rattle.touchcal.proofs.Cases.{opposite, shifted, target}
 use Rattle.oldtenths.specs.OldTenths.{oldTenthsOf}
 
 pub passed-before : fitBy oldTenthsOf (opposite 50 5) target ≡ Answered (record { cal = shifted 1_638_400 163_840; mean = tenths 250; max = tenths 250; before = tenths 250; verdict = Pass })
-unfolding fitBy solvedOf momentsOf placeOf addPair sharedOf addAbout detOf spreads coefsOf deltasOf stepsOf inSteps q16Of inReach nearestStep halfAway residBy missesOf missOf largest applyOf line lineFits in32 in16 down digit rootBy squared gapOf oldTenthsOf rootOf checkOf verdictOf scaleHolds mild near stays allStay onPanel allOnPanel total mean if_then_else_ _and_ _or_ ofBits add sub mul div lt ofInt toSigned
+unfolding fitBy solvedOf steppedOf momentsOf placeOf addPair sharedOf addAbout detOf spreads coefsOf deltasOf stepsOf inSteps q16Of inReach nearestStep halfAway residBy missesOf missOf largest applyOf line lineFits in32 in16 down digit rootBy squared gapOf oldTenthsOf rootOf checkOf verdictOf scaleHolds mild near stays allStay onPanel allOnPanel total mean if_then_else_ _and_ _or_ ofBits add sub mul div lt ofInt toSigned
 passed-before = refl

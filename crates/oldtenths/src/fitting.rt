@@ -43,5 +43,6 @@ pub fn old_fit_of(
     match touchcal::fit_of(pairs, n, targets, m) {
         FitAnswer::Answered(f) => measured(f.cal, pairs, n, targets, m),
         FitAnswer::Refused(r) => FitAnswer::Refused(r),
+        FitAnswer::Steep(p) => FitAnswer::Steep(p),
     }
 }

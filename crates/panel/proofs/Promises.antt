@@ -1,10 +1,11 @@
 -- The public calls in document 01's numbers: what each tells for every input, and that its contract leaves no
 -- second answer. Assumes nothing.
-use Prim.Native.Nat.{ℕ, _*_, _≤_}
+use Prim.Native.Nat.{ℕ, _*_, _≤_, _<_}
 use mathlib.Core.Bool.{Bool}
 use mathlib.Core.Path.{_≡_, refl, sym, _∙_}
 use mathlib.Core.List.{List, [], _∷_, map}
 use lib.IntN.{ℤ, natAbs}
+use native.Mathlib.Omega.{arith}
 use Rattle.panel.specs.Axes.{axisOf, lockOf, toldLock}
 use Rattle.panel.specs.Centroids.{middle, centroidOf, toldCentroid}
 use Rattle.panel.specs.Distances.{difference, distance, distance2, distOf, dist2Of, toldDist}
@@ -19,7 +20,7 @@ use Rattle.panel.specs.declared.distances.DistAnswer.{DistAnswer}
 use Rattle.panel.specs.declared.middle.CentroidAnswer.{CentroidAnswer}
 use Rattle.panel.specs.declared.points.Point.{Point}
 use Rattle.panel.specs.declared.refusals.Refusal.{Refusal}
-use Rattle.panel.specs.declared.refusals.Refusal.the-variants.{State, Panel, Wide, Long, Target, NoFit, Huge, Version, Cut, Form, Big, Kind, File, Room}
+use Rattle.panel.specs.declared.refusals.Refusal.the-variants.{State, Panel, Wide, Long, Target, Few, Huge, Version, Cut, Form, Big, Kind, File, Room, Line, Steep}
 use Rattle.panel.proofs.Follow.{if-of}
 
 -- Two values that are both what a definition says are the same. Every line named `...-unique`, here and in the crates
@@ -27,9 +28,28 @@ use Rattle.panel.proofs.Follow.{if-of}
 pub one-answer : {A : Type 0} {told r s : A} → r ≡ told → s ≡ told → r ≡ s
 one-answer p q = p ∙ sym q
 
--- The table's order: the refusals have the numbers 1 to 14, each its own.
-pub numbers : map numberOf (State ∷ Panel ∷ Wide ∷ Long ∷ Target ∷ NoFit ∷ Huge ∷ Version ∷ Cut ∷ Form ∷ Big ∷ Kind ∷ File ∷ Room ∷ []) ≡ 1 ∷ 2 ∷ 3 ∷ 4 ∷ 5 ∷ 6 ∷ 7 ∷ 8 ∷ 9 ∷ 10 ∷ 11 ∷ 12 ∷ 13 ∷ 14 ∷ []
+-- The table's order: the refusals have the numbers 1 to 14, 16 and 17, each its own. 15 is a later request's.
+pub numbers : map numberOf (State ∷ Panel ∷ Wide ∷ Long ∷ Target ∷ Few ∷ Huge ∷ Version ∷ Cut ∷ Form ∷ Big ∷ Kind ∷ File ∷ Room ∷ Line ∷ Steep ∷ []) ≡ 1 ∷ 2 ∷ 3 ∷ 4 ∷ 5 ∷ 6 ∷ 7 ∷ 8 ∷ 9 ∷ 10 ∷ 11 ∷ 12 ∷ 13 ∷ 14 ∷ 16 ∷ 17 ∷ []
 numbers = refl
+
+-- a number has two digits at most
+pub two-digits : (why : Refusal) → numberOf why < 100
+two-digits State = omega arith
+two-digits Panel = omega arith
+two-digits Wide = omega arith
+two-digits Long = omega arith
+two-digits Target = omega arith
+two-digits Few = omega arith
+two-digits Huge = omega arith
+two-digits Version = omega arith
+two-digits Cut = omega arith
+two-digits Form = omega arith
+two-digits Big = omega arith
+two-digits Kind = omega arith
+two-digits File = omega arith
+two-digits Room = omega arith
+two-digits Line = omega arith
+two-digits Steep = omega arith
 
 abbrev tells : {A : Type 0} → ℕ → A → Told A
 tells n a = record { number = n; value = a }

@@ -1,5 +1,6 @@
-// Why a call is refused, and document 01's number for it. One enum serves every crate, so that a
-// number means the same wherever it is seen.
+// Why a call is refused, and the documents' number for it. One enum serves every crate, so that a
+// number means the same wherever it is seen. The numbers have gaps: a number of document 02 comes with
+// the request that gives it a meaning.
 ghost use mathlib.Core.Path.{_≡_};
 ghost use Rattle.panel.specs.Refusals.{numberOf};
 
@@ -14,8 +15,8 @@ pub enum Refusal {
     Long,
     // A target is off the panel.
     Target,
-    // The taps fit no calibration.
-    NoFit,
+    // Fewer than three pairs to fit.
+    Few,
     // A coefficient is too large for Q16 steps.
     Huge,
     // A trace whose version is not known.
@@ -32,9 +33,13 @@ pub enum Refusal {
     File,
     // A record that is longer than the room lent for it.
     Room,
+    // The taps are on one line, or too close together.
+    Line,
+    // The taps' calibration has a coefficient that is too large for Q16 steps.
+    Steep,
 }
 
-// Document 01's number of a refusal. 0 is not among them: it says that a call was answered.
+// The number of a refusal. 0 is not among them: it says that a call was answered.
 pub fn number(r: Refusal) -> u8
     ensures { λ n. ⌜ n ≡ numberOf r ⌝ }
 {
@@ -44,7 +49,7 @@ pub fn number(r: Refusal) -> u8
         Refusal::Wide => 3,
         Refusal::Long => 4,
         Refusal::Target => 5,
-        Refusal::NoFit => 6,
+        Refusal::Few => 6,
         Refusal::Huge => 7,
         Refusal::Version => 8,
         Refusal::Cut => 9,
@@ -53,5 +58,7 @@ pub fn number(r: Refusal) -> u8
         Refusal::Kind => 12,
         Refusal::File => 13,
         Refusal::Room => 14,
+        Refusal::Line => 16,
+        Refusal::Steep => 17,
     }
 }

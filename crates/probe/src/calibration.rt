@@ -21,7 +21,9 @@ use calmap::Spot;
 use calmap::Spread;
 use calmap::Verdict;
 use panel::Point;
+use panel::Refusal;
 use touchcal::CalAnswer;
+use touchcal::CoefPlace;
 use touchcal::Fit;
 use touchcal::FitAnswer;
 use touchcal::Pending;
@@ -214,6 +216,11 @@ fn fitted(f: Fit) -> Reply {
     lines::answered(said)
 }
 
+// The refusal that carries a value: a coefficient is too large, and which.
+fn steep(p: CoefPlace) -> Reply {
+    lines::refused_with(Refusal::Steep, lines::number(p.0 as u64))
+}
+
 fn fit_by(
     kind: u64,
     pairs: [Pair; MAX_TAPS],
@@ -234,6 +241,7 @@ pub(crate) fn fit(kind: u64, b: Beside, t: Targets) -> Reply {
     match r {
         FitAnswer::Answered(f) => fitted(f),
         FitAnswer::Refused(why) => lines::refused(why),
+        FitAnswer::Steep(p) => steep(p),
     }
 }
 

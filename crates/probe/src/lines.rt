@@ -164,6 +164,14 @@ pub(crate) fn refused(why: Refusal) -> Reply {
     }
 }
 
+// A refusal that carries a value.
+pub(crate) fn refused_with(why: Refusal, value: Piece) -> Reply {
+    Reply {
+        refusal: panel::number(why),
+        said: one(value),
+    }
+}
+
 pub(crate) fn told(word: u64) -> Reply {
     answered(one(named(word)))
 }

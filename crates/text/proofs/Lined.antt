@@ -8,9 +8,9 @@ use Rattle.fingers.specs.declared.gestures.Gesture.{Gesture}
 use Rattle.gesture.specs.declared.answers.Given.{Given}
 use Rattle.gesture.specs.declared.answers.Given.the-variants.{Nothing, Gave}
 use Rattle.panel.proofs.Follow.{if-true, if-false}
+use Rattle.panel.proofs.Promises.{two-digits}
 use Rattle.panel.specs.Refusals.{numberOf}
 use Rattle.panel.specs.declared.refusals.Refusal.{Refusal}
-use Rattle.panel.specs.declared.refusals.Refusal.the-variants.{State, Panel, Wide, Long, Target, NoFit, Huge, Version, Cut, Form, Big, Kind, File, Room}
 use Rattle.text.specs.Gestures.{wordsOf}
 use Rattle.text.specs.Sizes.{lineMost}
 use Rattle.text.specs.Texts.{givenLine, refusedLine, answerLine, stopLine, endLine}
@@ -59,17 +59,4 @@ stop-of why n o e p q u v x =
 
 -- a refusal's number has two digits at most
 pub number-two : (why : Refusal) (n : ℕ) → n ≡ numberOf why → n < 100
-number-two State n e = omega arith
-number-two Panel n e = omega arith
-number-two Wide n e = omega arith
-number-two Long n e = omega arith
-number-two Target n e = omega arith
-number-two NoFit n e = omega arith
-number-two Huge n e = omega arith
-number-two Version n e = omega arith
-number-two Cut n e = omega arith
-number-two Form n e = omega arith
-number-two Big n e = omega arith
-number-two Kind n e = omega arith
-number-two File n e = omega arith
-number-two Room n e = omega arith
+number-two why n e = omega (arith, two-digits why)

@@ -25,9 +25,10 @@ use Rattle.calmap.specs.declared.limits.Verdict.the-variants.{Pass, Shift, Resi
 use Rattle.touchcal.specs.Sizes.{zero32, one32}
 use Rattle.touchcal.specs.Floats.{inReach, halfAway, nearestStep, q16Of, outOf, toF32Of, identity, inSteps, stepsOf}
 use Rattle.touchcal.specs.Moments.{placeOf, addPair, sharedOf, addAbout, momentsOf}
-use Rattle.touchcal.specs.Solutions.{detOf, spreads, coefsOf, deltasOf, solvedOf}
+use Rattle.touchcal.specs.Solutions.{detOf, spreads, coefsOf, deltasOf, firstRefused, steppedOf, solvedOf}
 use Rattle.touchcal.specs.Fits.{fitBy, fitOf, toldFit}
 use Rattle.touchcal.specs.declared.floats.Q16Answer.the-variants as Q16Answer
+use Rattle.touchcal.specs.declared.fitting.FitAnswer.{FitAnswer}
 use Rattle.touchcal.specs.declared.fitting.FitAnswer.the-variants.{Answered}
 
 abbrev corner : ℕ → ℕ → ℕ → Pair
@@ -49,11 +50,11 @@ moved c2 =
     record { c0 = none; c1 = none; c2 = record { 0 = pos c2 }; c3 = none; c4 = none; c5 = none }
 
 pub corners-41 : fitOf (corners 41) target ≡ Answered (record { cal = moved 2_686_976; mean = tenths 0; max = tenths 0; before = tenths 410; verdict = Shift })
-unfolding fitBy solvedOf momentsOf placeOf addPair sharedOf addAbout detOf spreads coefsOf deltasOf stepsOf inSteps q16Of inReach nearestStep halfAway residBy missesOf missOf largest applyOf line lineFits in32 in16 down digit rootBy squared gapOf tenthsOf checkOf verdictOf scaleHolds mild near stays allStay onPanel allOnPanel total mean if_then_else_ _and_ _or_ ofBits add sub mul div lt ofInt toSigned
+unfolding fitBy solvedOf steppedOf momentsOf placeOf addPair sharedOf addAbout detOf spreads coefsOf deltasOf stepsOf inSteps q16Of inReach nearestStep halfAway residBy missesOf missOf largest applyOf line lineFits in32 in16 down digit rootBy squared gapOf tenthsOf checkOf verdictOf scaleHolds mild near stays allStay onPanel allOnPanel total mean if_then_else_ _and_ _or_ ofBits add sub mul div lt ofInt toSigned
 corners-41 = refl
 
 pub corners-40 : fitOf (corners 40) target ≡ Answered (record { cal = moved 2_621_440; mean = tenths 0; max = tenths 0; before = tenths 400; verdict = Pass })
-unfolding fitBy solvedOf momentsOf placeOf addPair sharedOf addAbout detOf spreads coefsOf deltasOf stepsOf inSteps q16Of inReach nearestStep halfAway residBy missesOf missOf largest applyOf line lineFits in32 in16 down digit rootBy squared gapOf tenthsOf checkOf verdictOf scaleHolds mild near stays allStay onPanel allOnPanel total mean if_then_else_ _and_ _or_ ofBits add sub mul div lt ofInt toSigned
+unfolding fitBy solvedOf steppedOf momentsOf placeOf addPair sharedOf addAbout detOf spreads coefsOf deltasOf stepsOf inSteps q16Of inReach nearestStep halfAway residBy missesOf missOf largest applyOf line lineFits in32 in16 down digit rootBy squared gapOf tenthsOf checkOf verdictOf scaleHolds mild near stays allStay onPanel allOnPanel total mean if_then_else_ _and_ _or_ ofBits add sub mul div lt ofInt toSigned
 corners-40 = refl
 
 -- ---- the limit of a fit, "Resid if max > 250": the corners onto themselves, but for two opposite ones that are moved by the same. The fit
@@ -75,29 +76,57 @@ shifted c2 c5 =
     record { c0 = none; c1 = none; c2 = record { 0 = pos c2 }; c3 = none; c4 = none; c5 = record { 0 = pos c5 } }
 
 pub at-the-limit : fitOf (opposite 50 4) target ≡ Answered (record { cal = shifted 1_638_400 131_072; mean = tenths 250; max = tenths 250; before = tenths 250; verdict = Pass })
-unfolding fitBy solvedOf momentsOf placeOf addPair sharedOf addAbout detOf spreads coefsOf deltasOf stepsOf inSteps q16Of inReach nearestStep halfAway residBy missesOf missOf largest applyOf line lineFits in32 in16 down digit rootBy squared gapOf tenthsOf checkOf verdictOf scaleHolds mild near stays allStay onPanel allOnPanel total mean if_then_else_ _and_ _or_ ofBits add sub mul div lt ofInt toSigned
+unfolding fitBy solvedOf steppedOf momentsOf placeOf addPair sharedOf addAbout detOf spreads coefsOf deltasOf stepsOf inSteps q16Of inReach nearestStep halfAway residBy missesOf missOf largest applyOf line lineFits in32 in16 down digit rootBy squared gapOf tenthsOf checkOf verdictOf scaleHolds mild near stays allStay onPanel allOnPanel total mean if_then_else_ _and_ _or_ ofBits add sub mul div lt ofInt toSigned
 at-the-limit = refl
 
 pub over-the-limit : fitOf (opposite 50 5) target ≡ Answered (record { cal = shifted 1_638_400 163_840; mean = tenths 251; max = tenths 251; before = tenths 251; verdict = Resid })
-unfolding fitBy solvedOf momentsOf placeOf addPair sharedOf addAbout detOf spreads coefsOf deltasOf stepsOf inSteps q16Of inReach nearestStep halfAway residBy missesOf missOf largest applyOf line lineFits in32 in16 down digit rootBy squared gapOf tenthsOf checkOf verdictOf scaleHolds mild near stays allStay onPanel allOnPanel total mean if_then_else_ _and_ _or_ ofBits add sub mul div lt ofInt toSigned
+unfolding fitBy solvedOf steppedOf momentsOf placeOf addPair sharedOf addAbout detOf spreads coefsOf deltasOf stepsOf inSteps q16Of inReach nearestStep halfAway residBy missesOf missOf largest applyOf line lineFits in32 in16 down digit rootBy squared gapOf tenthsOf checkOf verdictOf scaleHolds mild near stays allStay onPanel allOnPanel total mean if_then_else_ _and_ _or_ ofBits add sub mul div lt ofInt toSigned
 over-the-limit = refl
 
--- ---- each refusal, in its order: 65 pairs, with a target off the panel; that target, with no pairs; two pairs; three on one line; a
--- coefficient beyond the steps; and 32767 · 65536 + 4 · 32767, past i32 in `resid` (where the Rust overflows)
+-- ---- each refusal, in its order, and the place that STEEP tells; the smallest taps of FEW, LINE and STEEP
 
 abbrev off : List Point
 off = record { x = 480; y = 0 } ∷ []
 
-pub refusals : map (λ a. toldFit a .number)
-    (fitOf (replicate 65 (pair (pos 0) (pos 0) (pos 0) (pos 0))) off
+abbrev same : ℕ → ℕ → Pair
+same x y = pair (pos x) (pos y) (pos x) (pos y)
+
+abbrev onto : ℤ → ℤ → ℤ → ℤ → ℤ → ℤ → List Pair
+onto u v u1 v1 u2 v2 = pair (pos 0) (pos 0) u v ∷ pair (pos 2) (pos 0) u1 v1 ∷ pair (pos 0) (pos 2) u2 v2 ∷ []
+
+abbrev whyTold : FitAnswer → ℕ × ℕ
+whyTold a = (toldFit a .number, toldFit a .value .place .0)
+
+pub refusals : map whyTold
+    -- LONG: 65 pairs, with a target off the panel; TARGET: that target, with no pairs
+    (fitOf (replicate 65 (same 0 0)) off
     ∷ fitOf [] off
-    ∷ fitOf (pair (pos 0) (pos 0) (pos 0) (pos 0) ∷ pair (pos 100) (pos 0) (pos 100) (pos 0) ∷ []) target
-    ∷ fitOf (pair (pos 0) (pos 0) (pos 0) (pos 0) ∷ pair (pos 1) (pos 1) (pos 1) (pos 1) ∷ pair (pos 2) (pos 2) (pos 2) (pos 2) ∷ []) target
-    ∷ fitOf (pair (pos 0) (pos 0) (pos 32767) (pos 0) ∷ pair (pos 100) (pos 0) (pos 32767) (pos 0) ∷ pair (pos 0) (pos 100) (pos 32767) (pos 0) ∷ []) target
+    -- FEW: two pairs
+    ∷ fitOf (same 0 0 ∷ same 2 0 ∷ []) target
+    -- LINE: three on one line; three with both sums under 1, that of x, that of y; four, whose sums are 1, have a fit
+    ∷ fitOf (same 0 0 ∷ same 1 1 ∷ same 2 2 ∷ []) target
+    ∷ fitOf (same 0 0 ∷ same 1 0 ∷ same 0 1 ∷ []) target
+    ∷ fitOf (same 0 0 ∷ same 1 0 ∷ same 0 2 ∷ []) target
+    ∷ fitOf (same 0 0 ∷ same 2 0 ∷ same 0 1 ∷ []) target
+    ∷ fitOf (same 0 0 ∷ same 1 0 ∷ same 0 1 ∷ same 1 1 ∷ []) target
+    -- STEEP: a, b, c, d, e and f, by (0,0), (2,0) and (0,2) onto these; a target one short of a's limit is WIDE, and one short of c's has a fit
+    ∷ fitOf (onto (negsuc 30516) (pos 0) (pos 30520) (pos 0) (negsuc 30516) (pos 2)) target
+    ∷ fitOf (onto (negsuc 30516) (pos 0) (pos 30521) (pos 0) (negsuc 30516) (pos 2)) target
+    ∷ fitOf (onto (negsuc 30516) (pos 0) (negsuc 30514) (pos 0) (pos 30519) (pos 2)) target
+    ∷ fitOf (onto (pos 30517) (pos 0) (pos 30519) (pos 0) (pos 30517) (pos 2)) target
+    ∷ fitOf (onto (pos 30518) (pos 0) (pos 30520) (pos 0) (pos 30518) (pos 2)) target
+    ∷ fitOf (onto (pos 0) (negsuc 30516) (pos 2) (pos 30519) (pos 0) (negsuc 30514)) target
+    ∷ fitOf (onto (pos 0) (negsuc 30516) (pos 2) (negsuc 30516) (pos 0) (pos 30521)) target
+    ∷ fitOf (onto (pos 0) (pos 30518) (pos 2) (pos 30518) (pos 0) (pos 30520)) target
+    -- several beyond it, the first is told: b and d; e and f; all six
+    ∷ fitOf (onto (negsuc 30516) (negsuc 30516) (negsuc 30514) (pos 30519) (pos 30519) (negsuc 30514)) target
+    ∷ fitOf (onto (pos 0) (negsuc 30517) (pos 2) (negsuc 30517) (pos 0) (pos 30520)) target
+    ∷ fitOf (onto (negsuc 32767) (negsuc 32767) (pos 32767) (pos 32767) (pos 32767) (pos 32767)) target
+    -- WIDE: 32767 · 65536 + 4 · 32767, past i32 in `resid` (where the Rust overflows)
     ∷ fitOf (pair (pos 0) (pos 0) (negsuc 1) (pos 0) ∷ pair (pos 32767) (pos 0) (pos 32767) (pos 0) ∷ pair (pos 0) (pos 100) (negsuc 1) (pos 100) ∷ []) target
     ∷ [])
-    ≡ 4 ∷ 5 ∷ 6 ∷ 6 ∷ 6 ∷ 3 ∷ []
-unfolding fitBy solvedOf momentsOf placeOf addPair sharedOf addAbout detOf spreads coefsOf deltasOf stepsOf inSteps q16Of inReach nearestStep halfAway residBy missesOf missOf largest applyOf line lineFits in32 in16 down digit rootBy squared gapOf tenthsOf checkOf verdictOf scaleHolds mild near stays allStay onPanel allOnPanel total mean if_then_else_ _and_ _or_ ofBits add sub mul div lt ofInt toSigned
+    ≡ (4, 0) ∷ (5, 0) ∷ (6, 0) ∷ (16, 0) ∷ (16, 0) ∷ (16, 0) ∷ (16, 0) ∷ (0, 0) ∷ (3, 0) ∷ (17, 0) ∷ (17, 1) ∷ (0, 0) ∷ (17, 2) ∷ (17, 3) ∷ (17, 4) ∷ (17, 5) ∷ (17, 1) ∷ (17, 4) ∷ (17, 0) ∷ (3, 0) ∷ []
+unfolding fitBy solvedOf steppedOf firstRefused momentsOf placeOf addPair sharedOf addAbout detOf spreads coefsOf deltasOf stepsOf inSteps q16Of inReach nearestStep halfAway residBy missesOf missOf largest applyOf line lineFits in32 in16 down digit rootBy squared gapOf tenthsOf checkOf verdictOf scaleHolds mild near stays allStay onPanel allOnPanel total mean if_then_else_ _and_ _or_ ofBits add sub mul div lt ofInt toSigned
 refusals = refl
 
 -- ---- `q16` at its edges: NaN; s = 2.0e9, and the float below it; a half of a step either way; and the largest s below a half, which is

@@ -1,7 +1,7 @@
 -- `fit` case by case: which refusal comes where, and that the residuals of a fit are those of `resid` and its verdict that of `check`.
 -- Assumes nothing.
 use mathlib.Core.Path.{_≡_, refl, ap, subst}
-use mathlib.Core.Bool.{Bool, true, false, not}
+use mathlib.Core.Bool.{Bool, true, false}
 use mathlib.Core.List.{List, map}
 use Prim.Native.Nat.{ℕ}
 use native.Mathlib.Omega.{arith}
@@ -17,7 +17,7 @@ use Rattle.panel.proofs.Follow.{follow, if-of}
 use Rattle.calmap.specs.Sizes.{longest}
 use Rattle.calmap.specs.Distances.{Rule, tenthsOf, tenths}
 use Rattle.calmap.specs.Resids.{residBy, Misses, known, wide, missesOf, largest, spreadBy}
-use Rattle.calmap.specs.Checks.{checkOf, verdictOf, none, judged}
+use Rattle.calmap.specs.Checks.{checkOf, verdictOf, judged}
 use Rattle.calmap.specs.declared.units.Cal.{Cal}
 use Rattle.calmap.specs.declared.units.Pair.{Pair}
 use Rattle.calmap.specs.declared.residuals.ResidAnswer.{ResidAnswer}
@@ -29,42 +29,57 @@ use Rattle.calmap.specs.declared.limits.CheckAnswer.the-variants as Check
 use Rattle.touchcal.specs.Sizes.{fewest}
 use Rattle.touchcal.specs.Floats.{identity}
 use Rattle.touchcal.specs.Moments.{momentsOf}
-use Rattle.touchcal.specs.Solutions.{spreads, coefsOf, deltasOf, ofSteps, solvedOf}
-use Rattle.touchcal.specs.Fits.{judgedBy, fitWith, weighed, fittedBy, fitBy, Tells, toldFit}
+use Rattle.touchcal.specs.Solutions.{spreads, coefsOf, deltasOf, firstRefused, inOrder, place, ofSteps, solvedOf}
+use Rattle.touchcal.specs.Fits.{judgedBy, fitWith, weighed, fittedBy, fitBy, Tells, unmeasured, toldFit}
 use Rattle.touchcal.specs.declared.floats.Coefs.{Coefs}
-use Rattle.touchcal.specs.declared.solving.Fault.the-variants.{Few, Line, Steep}
+use Rattle.touchcal.specs.declared.floats.CoefPlace.{CoefPlace}
+use Rattle.touchcal.specs.declared.solving.Fault.the-variants.{Few, Line}
+use Rattle.touchcal.specs.declared.solving.Fault.the-variants as Fault
 use Rattle.touchcal.specs.declared.solving.Solved.{Solved}
 use Rattle.touchcal.specs.declared.solving.Solved.the-variants.{Is, Not}
 use Rattle.touchcal.specs.declared.fitting.Fit.{Fit}
 use Rattle.touchcal.specs.declared.fitting.FitAnswer.{FitAnswer}
-use Rattle.touchcal.specs.declared.fitting.FitAnswer.the-variants.{Answered, Refused}
-use Rattle.touchcal.proofs.Reach.{allReach, nearestCal, steps-are}
+use Rattle.touchcal.specs.declared.fitting.FitAnswer.the-variants.{Answered, Refused, Steep}
+use Rattle.touchcal.proofs.Reach.{allReach, nearestCal, stepped-are}
 
--- ---- the solution: the Rust's three ways to `None`, and no other
+-- ---- the solution: the Rust's three ways to `None`, in its order, and no other
 
 abbrev pub deltas : List Pair → Coefs
 deltas ps = deltasOf (coefsOf (momentsOf ps))
 
-pub solved-are : (ps : List Pair) → solvedOf ps ≡ (if length ps <? fewest then Not Few else if spreads (momentsOf ps .sums) then (if allReach (deltas ps) then Is (nearestCal (deltas ps)) else Not Steep) else Not Line)
+abbrev pub few : List Pair → Bool
+few ps = length ps <? fewest
+
+abbrev pub spread : List Pair → Bool
+spread ps = spreads (momentsOf ps .sums)
+
+abbrev pub near : List Pair → Bool
+near ps = allReach (deltas ps)
+
+-- the place of the first coefficient that is out of reach
+abbrev pub first : List Pair → CoefPlace
+first ps = place (firstRefused (inOrder (deltas ps)))
+
+pub solved-are : (ps : List Pair) → solvedOf ps ≡ (if few ps then Not Few else if spread ps then (if near ps then Is (nearestCal (deltas ps)) else Not (Fault.Steep (first ps))) else Not Line)
 unfolding solvedOf
-solved-are ps = rw (steps-are (deltas ps), if-of ofSteps (allReach (deltas ps)) _ _)
+solved-are ps = rw (stepped-are (deltas ps), if-of ofSteps (near ps) _ _)
 
--- the three in one test
-abbrev pub unfit : List Pair → Bool
-unfit ps = length ps <? fewest or not (spreads (momentsOf ps .sums)) or not (allReach (deltas ps))
-
+-- FEW, LINE and STEEP, and behind them what is measured
 pub unfit-exactly : (rule : Rule) (ps : List Pair) (ts : List Point)
-    → fittedBy rule (solvedOf ps) ps ts ≡ (if unfit ps then Refused Refusal.NoFit else weighed (nearestCal (deltas ps)) (residBy rule (nearestCal (deltas ps)) ps) (residBy rule identity ps) (checkOf (nearestCal (deltas ps)) ts))
-unfolding if_then_else_ _or_
-unfit-exactly rule ps ts = rw (solved-are ps) (go (length ps <? fewest) (spreads (momentsOf ps .sums)) (allReach (deltas ps)) (nearestCal (deltas ps)))
+    → fittedBy rule (solvedOf ps) ps ts
+    ≡ (if few ps then Refused Refusal.Few
+      else if spread ps then (if near ps then weighed (nearestCal (deltas ps)) (residBy rule (nearestCal (deltas ps)) ps) (residBy rule identity ps) (checkOf (nearestCal (deltas ps)) ts) else Steep (first ps))
+      else Refused Refusal.Line)
+unfolding if_then_else_
+unfit-exactly rule ps ts = rw (solved-are ps) (go (few ps) (spread ps) (near ps) (nearestCal (deltas ps)) (first ps))
   where
-    go : (few apart near : Bool) (c : Cal)
-        → fittedBy rule (if few then Not Few else if apart then (if near then Is c else Not Steep) else Not Line) ps ts
-        ≡ (if few or not apart or not near then Refused Refusal.NoFit else weighed c (residBy rule c ps) (residBy rule identity ps) (checkOf c ts))
-    go true apart near c = refl
-    go false true true c = refl
-    go false true false c = refl
-    go false false near c = refl
+    go : (f s n : Bool) (c : Cal) (p : CoefPlace)
+        → fittedBy rule (if f then Not Few else if s then (if n then Is c else Not (Fault.Steep p)) else Not Line) ps ts
+        ≡ (if f then Refused Refusal.Few else if s then (if n then weighed c (residBy rule c ps) (residBy rule identity ps) (checkOf c ts) else Steep p) else Refused Refusal.Line)
+    go true s n c p = refl
+    go false true true c p = refl
+    go false true false c p = refl
+    go false false n c p = refl
 
 -- ---- no list too long, and all targets on the panel
 
@@ -87,18 +102,20 @@ abbrev pub tells : {A : Type 0} → ℕ → A → Told A
 tells n a = record { number = n; value = a }
 
 abbrev pub zeros : Tells
-zeros = record { cal = identity; mean = tenths 0; max = tenths 0; before = tenths 0; verdict = none }
+zeros = unmeasured (place 0)
 
 abbrev pub byMisses : Cal → List Point → Misses → Misses → Told Tells
 byMisses c ts (known ds) (known before) =
     let told = map tenthsOf ds in
-    tells 0 (record { cal = c; mean = tenths (mean told); max = tenths (largest told); before = tenths (mean (map tenthsOf before)); verdict = judged (judgedBy (verdictOf c ts) (tenths (largest told))) })
+    tells 0 (record { cal = c; mean = tenths (mean told); max = tenths (largest told); before = tenths (mean (map tenthsOf before)); verdict = judged (judgedBy (verdictOf c ts) (tenths (largest told))); place = place 0 })
 byMisses c ts (known ds) wide = tells 3 zeros
 byMisses c ts wide before = tells 3 zeros
 
 abbrev pub bySolution : Solved → List Pair → List Point → Told Tells
 bySolution (Is c) ps ts = byMisses c ts (missesOf c ps) (missesOf identity ps)
-bySolution (Not f) ps ts = tells 6 zeros
+bySolution (Not Few) ps ts = tells 6 zeros
+bySolution (Not Line) ps ts = tells 16 zeros
+bySolution (Not (Fault.Steep p)) ps ts = tells 17 (unmeasured p)
 
 misses-tell : (c : Cal) (ts : List Point) (ms before : Misses) → toldFit (weighed c (spreadBy tenthsOf ms) (spreadBy tenthsOf before) (Check.Answered (verdictOf c ts))) ≡ byMisses c ts ms before
 misses-tell c ts (known ds) (known d0) = refl
@@ -108,7 +125,9 @@ misses-tell c ts wide before = refl
 module _ (ps : List Pair) (ts : List Point) (few : longest <? length ps ≡ false) (few′ : longest <? length ts ≡ false) (on : allOnPanel ts ≡ true) where
   pub solution-tells : (s : Solved) → toldFit (fittedBy tenthsOf s ps ts) ≡ bySolution s ps ts
   solution-tells (Is c) = rw (resid-is ps ts few few′ on tenthsOf c, resid-is ps ts few few′ on tenthsOf identity, check-is ps ts few few′ on c) (misses-tell c ts (missesOf c ps) (missesOf identity ps))
-  solution-tells (Not f) = refl
+  solution-tells (Not Few) = refl
+  solution-tells (Not Line) = refl
+  solution-tells (Not (Fault.Steep p)) = refl
 
 -- ---- the residuals and the verdict of a fit that is answered
 
@@ -137,7 +156,9 @@ fitted-back : (rule : Rule) (ps : List Pair) (ts : List Point) (s : Solved) (f :
 fitted-back rule ps ts (Is c) f e =
     let m = weighed-back rule ps ts c (residBy rule c ps) (residBy rule identity ps) (checkOf c ts) f refl refl refl e in
     (ap (λ (k : Cal). Is k) (m .0), m .1)
-fitted-back rule ps ts (Not r) f e = never Refusal.NoFit f e
+fitted-back rule ps ts (Not Few) f e = never Refusal.Few f e
+fitted-back rule ps ts (Not Line) f e = never Refusal.Line f e
+fitted-back rule ps ts (Not (Fault.Steep p)) f e = let z : _≡_ {A = ℕ} 0 1 = cc in absurd (omega arith)
 
 answered-inside : (a b : Bool) (r r′ : Refusal) (x : FitAnswer) (f : Fit) → (if a then Refused r else if b then x else Refused r′) ≡ Answered f → x ≡ Answered f
 unfolding if_then_else_

@@ -60,7 +60,7 @@ pub take-tells : (p : Pending) → toldTake (takeOf p) ≡ (if p .set then tells
 unfolding takeOf
 take-tells p = if-of toldTake _ _ _
 
--- LONG, TARGET, NOFIT and WIDE in this order; else the calibration, its residuals and the verdict.
+-- LONG, TARGET, FEW, LINE, STEEP and WIDE in this order, zeros with each but for the place of STEEP; else the calibration, its residuals and the verdict.
 pub fit-tells : (ps : List Pair) (ts : List Point) → toldFit (fitOf ps ts) ≡ (if longest <? length ps or longest <? length ts then tells 4 zeros else if allOnPanel ts then bySolution (solvedOf ps) ps ts else tells 5 zeros)
 unfolding fitBy
 fit-tells ps ts =

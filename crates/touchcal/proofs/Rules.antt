@@ -1,15 +1,13 @@
 -- `fit` by one rule of tenths and by another: the same calls are refused, with the same refusal, and the calibration is the
 -- same; what is told in tenths, and the verdict that hangs on it, is that of each rule. Assumes nothing.
-use mathlib.Core.Path.{_≡_, refl, ap, _∙_}
-use mathlib.Core.Bool.{Bool, true, false}
+use mathlib.Core.Path.{_≡_, refl, sym, ap, _∙_}
+use mathlib.Core.Bool.{Bool, true, false, true≢false}
 use mathlib.Core.List.{List}
 use Prim.Native.Nat.{ℕ}
-use native.Mathlib.Omega.{arith}
 use lib.ListN.{length, take}
 use Rattle.panel.specs.Tests.{if_then_else_, _or_, _<?_}
 use Rattle.panel.specs.Points.{allOnPanel}
 use Rattle.panel.specs.declared.points.Point.{Point}
-use Rattle.panel.specs.declared.refusals.Refusal.{Refusal}
 use Rattle.panel.specs.declared.refusals.Refusal.the-variants as Refusal
 use Rattle.calmap.specs.Distances.{Rule}
 use Rattle.calmap.specs.Resids.{Misses, known, wide, missesOf, spreadBy, residBy, residFirstBy}
@@ -28,41 +26,47 @@ use Rattle.touchcal.specs.declared.solving.Solved.{Solved}
 use Rattle.touchcal.specs.declared.solving.Solved.the-variants.{Is, Not}
 use Rattle.touchcal.specs.declared.fitting.Fit.{Fit}
 use Rattle.touchcal.specs.declared.fitting.FitAnswer.{FitAnswer}
-use Rattle.touchcal.specs.declared.fitting.FitAnswer.the-variants.{Answered, Refused}
+use Rattle.touchcal.specs.declared.fitting.FitAnswer.the-variants.{Answered, Refused, Steep}
 use Rattle.touchcal.proofs.Fitted.{never, fit-measured}
 
-never-answered : {X : Type 0} (r : Refusal) (f : Fit) → Answered f ≡ Refused r → X
-never-answered r f e = let z : _≡_ {A = ℕ} 0 1 = cc in absurd (omega arith)
+-- a call that is refused, STEEP with its place among them
+abbrev pub unanswered : FitAnswer → Bool
+unanswered (Answered f) = false
+unanswered (Refused r) = true
+unanswered (Steep p) = true
+
+never-answered : {X : Type 0} (x : FitAnswer) (f : Fit) → unanswered x ≡ true → Answered f ≡ x → X
+never-answered x f h e = absurd (true≢false (sym (ap unanswered e ∙ h)))
 
 module _ (a b : Rule) where
   -- ---- the same refusals
 
-  same-weighed : (long : Bool) (ms before : Misses) (c : Cal) (k : CheckAnswer) (r : Refusal)
-      → weighed c (if long then Resid.Refused Refusal.Long else spreadBy a ms) (if long then Resid.Refused Refusal.Long else spreadBy a before) k ≡ Refused r
-      → weighed c (if long then Resid.Refused Refusal.Long else spreadBy b ms) (if long then Resid.Refused Refusal.Long else spreadBy b before) k ≡ Refused r
+  same-weighed : (long : Bool) (ms before : Misses) (c : Cal) (k : CheckAnswer) (x : FitAnswer) → unanswered x ≡ true
+      → weighed c (if long then Resid.Refused Refusal.Long else spreadBy a ms) (if long then Resid.Refused Refusal.Long else spreadBy a before) k ≡ x
+      → weighed c (if long then Resid.Refused Refusal.Long else spreadBy b ms) (if long then Resid.Refused Refusal.Long else spreadBy b before) k ≡ x
   unfolding if_then_else_
-  same-weighed true ms before c k r e = e
-  same-weighed false (known ds) (known d0) c (Check.Answered v) r e = never-answered r _ e
-  same-weighed false (known ds) (known d0) c (Check.Refused s) r e = e
-  same-weighed false (known ds) wide c k r e = e
-  same-weighed false wide before c k r e = e
+  same-weighed true ms before c k x h e = e
+  same-weighed false (known ds) (known d0) c (Check.Answered v) x h e = never-answered x _ h e
+  same-weighed false (known ds) (known d0) c (Check.Refused s) x h e = e
+  same-weighed false (known ds) wide c k x h e = e
+  same-weighed false wide before c k x h e = e
 
-  same-fitted : (s : Solved) (ps : List Pair) (ts : List Point) (r : Refusal) → fittedBy a s ps ts ≡ Refused r → fittedBy b s ps ts ≡ Refused r
+  same-fitted : (s : Solved) (ps : List Pair) (ts : List Point) (x : FitAnswer) → unanswered x ≡ true → fittedBy a s ps ts ≡ x → fittedBy b s ps ts ≡ x
   unfolding residBy
-  same-fitted (Is c) ps ts r e = same-weighed (longest <? length ps) (missesOf c ps) (missesOf identity ps) c (checkOf c ts) r e
-  same-fitted (Not f) ps ts r e = e
+  same-fitted (Is c) ps ts x h e = same-weighed (longest <? length ps) (missesOf c ps) (missesOf identity ps) c (checkOf c ts) x h e
+  same-fitted (Not f) ps ts x h e = e
 
-  same-inside : (long on : Bool) (s : Solved) (ps : List Pair) (ts : List Point) (r : Refusal)
-      → (if long then Refused Refusal.Long else if on then fittedBy a s ps ts else Refused Refusal.Target) ≡ Refused r
-      → (if long then Refused Refusal.Long else if on then fittedBy b s ps ts else Refused Refusal.Target) ≡ Refused r
+  same-inside : (long on : Bool) (s : Solved) (ps : List Pair) (ts : List Point) (x : FitAnswer) → unanswered x ≡ true
+      → (if long then Refused Refusal.Long else if on then fittedBy a s ps ts else Refused Refusal.Target) ≡ x
+      → (if long then Refused Refusal.Long else if on then fittedBy b s ps ts else Refused Refusal.Target) ≡ x
   unfolding if_then_else_
-  same-inside true on s ps ts r e = e
-  same-inside false true s ps ts r e = same-fitted s ps ts r e
-  same-inside false false s ps ts r e = e
+  same-inside true on s ps ts x h e = e
+  same-inside false true s ps ts x h e = same-fitted s ps ts x h e
+  same-inside false false s ps ts x h e = e
 
-  pub same-refused : (ps : List Pair) (ts : List Point) (r : Refusal) → fitBy a ps ts ≡ Refused r → fitBy b ps ts ≡ Refused r
+  pub same-refused : (ps : List Pair) (ts : List Point) (x : FitAnswer) → unanswered x ≡ true → fitBy a ps ts ≡ x → fitBy b ps ts ≡ x
   unfolding fitBy
-  same-refused ps ts r e = same-inside (longest <? length ps or longest <? length ts) (allOnPanel ts) (solvedOf ps) ps ts r e
+  same-refused ps ts x h e = same-inside (longest <? length ps or longest <? length ts) (allOnPanel ts) (solvedOf ps) ps ts x h e
 
   -- ---- the same calibration
 
@@ -82,14 +86,14 @@ module _ (a b : Rule) where
   -- ---- the same of the first pairs and targets of arrays
 
   module _ (n : ℕ) (ps : List Pair) (m : ℕ) (ts : List Point) where
-    first-refused : (long : Bool) (r : Refusal) → (if long then Refused Refusal.Long else fitBy a (take n ps) (take m ts)) ≡ Refused r → (if long then Refused Refusal.Long else fitBy b (take n ps) (take m ts)) ≡ Refused r
+    first-refused : (long : Bool) (x : FitAnswer) → unanswered x ≡ true → (if long then Refused Refusal.Long else fitBy a (take n ps) (take m ts)) ≡ x → (if long then Refused Refusal.Long else fitBy b (take n ps) (take m ts)) ≡ x
     unfolding if_then_else_
-    first-refused true r e = e
-    first-refused false r e = same-refused (take n ps) (take m ts) r e
+    first-refused true x h e = e
+    first-refused false x h e = same-refused (take n ps) (take m ts) x h e
 
-    pub same-refused-first : (r : Refusal) → fitFirstBy a n ps m ts ≡ Refused r → fitFirstBy b n ps m ts ≡ Refused r
+    pub same-refused-first : (x : FitAnswer) → unanswered x ≡ true → fitFirstBy a n ps m ts ≡ x → fitFirstBy b n ps m ts ≡ x
     unfolding fitFirstBy
-    same-refused-first r e = first-refused (longest <? n or longest <? m) r e
+    same-refused-first x h e = first-refused (longest <? n or longest <? m) x h e
 
     first-cal : (l l′ : Bool) (f : Fit) → (if l or l′ then Refused Refusal.Long else fitBy a (take n ps) (take m ts)) ≡ Answered f
         → (if l or l′ then Refused Refusal.Long else fitBy b (take n ps) (take m ts))

@@ -2,15 +2,16 @@
 --
 -- "4 LONG: over 64 pairs in use, or over 64 targets; 5 TARGET: a target off the panel; 6 NOFIT: Rust `fit` answers `None`;
 -- 3 WIDE: a 32-bit value or sum named below does not fit". Order: "LONG, TARGET, NOFIT, WIDE in `fit`". "Verdict: Scale,
--- Shift, then Resid if max > 250." Mean, max and before are those of `resid`, Scale and Shift those of `check`. It is stated
--- over the rule of tenths that `resid` goes by (calmap's Distances).
+-- Shift, then Resid if max > 250." Mean, max and before are those of `resid`, Scale and Shift those of `check`. Document 02,
+-- [2]: NOFIT divides, "6 becomes FEW, 16 LINE, 17 STEEP, in that order, after TARGET and before WIDE; STEEP alone carries a
+-- value, the coefficient's place". It is stated over the rule of tenths that `resid` goes by (calmap's Distances).
 use mathlib.Core.List.{List}
 use lib.ListN.{length}
 use Rattle.panel.specs.Tests.{if_then_else_, _or_, _<?_}
 use Rattle.panel.specs.Points.{allOnPanel}
 use Rattle.panel.specs.Refusals.{Told, answered, refused}
 use Rattle.panel.specs.declared.points.Point.{Point}
-use Rattle.panel.specs.declared.refusals.Refusal.the-variants.{Long, Target, NoFit}
+use Rattle.panel.specs.declared.refusals.Refusal.the-variants as Refusal
 use Rattle.calmap.specs.Sizes.{longest}
 use Rattle.calmap.specs.Distances.{Rule, tenthsOf, tenths}
 use Rattle.calmap.specs.Resids.{residBy}
@@ -27,12 +28,15 @@ use Rattle.calmap.specs.declared.limits.CheckAnswer.{CheckAnswer}
 use Rattle.calmap.specs.declared.limits.CheckAnswer.the-variants as Check
 use Rattle.touchcal.specs.Sizes.{residLimit}
 use Rattle.touchcal.specs.Floats.{identity}
-use Rattle.touchcal.specs.Solutions.{solvedOf}
+use Rattle.touchcal.specs.Solutions.{place, solvedOf}
+use Rattle.touchcal.specs.declared.floats.CoefPlace.{CoefPlace}
+use Rattle.touchcal.specs.declared.solving.Fault.{Fault}
+use Rattle.touchcal.specs.declared.solving.Fault.the-variants as Fault
 use Rattle.touchcal.specs.declared.solving.Solved.{Solved}
 use Rattle.touchcal.specs.declared.solving.Solved.the-variants as Solved
 use Rattle.touchcal.specs.declared.fitting.Fit.{Fit}
 use Rattle.touchcal.specs.declared.fitting.FitAnswer.{FitAnswer}
-use Rattle.touchcal.specs.declared.fitting.FitAnswer.the-variants.{Answered, Refused}
+use Rattle.touchcal.specs.declared.fitting.FitAnswer.the-variants.{Answered, Refused, Steep}
 
 -- the verdict of `check`, and then the residuals
 abbrev pub judgedBy : Verdict → Tenths → Verdict
@@ -52,30 +56,40 @@ weighed c (Resid.Answered s) (Resid.Answered s0) (Check.Refused r) = Refused r
 weighed c (Resid.Answered s) (Resid.Refused r) k = Refused r
 weighed c (Resid.Refused r) before k = Refused r
 
+-- where the Rust says `None`, by why
+abbrev pub unfitBy : Fault → FitAnswer
+unfitBy Fault.Few = Refused Refusal.Few
+unfitBy Fault.Line = Refused Refusal.Line
+unfitBy (Fault.Steep p) = Steep p
+
 abbrev pub fittedBy : Rule → Solved → List Pair → List Point → FitAnswer
 fittedBy rule (Solved.Is c) ps ts = weighed c (residBy rule c ps) (residBy rule identity ps) (checkOf c ts)
-fittedBy rule (Solved.Not f) ps ts = Refused NoFit
+fittedBy rule (Solved.Not f) ps ts = unfitBy f
 
 unfoldable pub fitBy : Rule → List Pair → List Point → FitAnswer
 fitBy rule ps ts =
-    if longest <? length ps or longest <? length ts then Refused Long
+    if longest <? length ps or longest <? length ts then Refused Refusal.Long
     else if allOnPanel ts then fittedBy rule (solvedOf ps) ps ts
-    else Refused Target
+    else Refused Refusal.Target
 
 -- by the rule of the calls
 abbrev pub fitOf : List Pair → List Point → FitAnswer
 fitOf = fitBy tenthsOf
 
--- what a fit tells; zeros and no verdict for a refusal
+-- what a fit tells; zeros and no verdict for a refusal, but that STEEP tells a place
 pub record Tells : Type 0 where
   pub cal : Cal
   pub mean : Tenths
   pub max : Tenths
   pub before : Tenths
   pub verdict : Judged
+  pub place : CoefPlace
+
+abbrev pub unmeasured : CoefPlace → Tells
+unmeasured p = record { cal = identity; mean = tenths 0; max = tenths 0; before = tenths 0; verdict = none; place = p }
 
 abbrev pub toldFit : FitAnswer → Told Tells
 toldFit (Answered f) =
-    answered (record { cal = f .cal; mean = f .mean; max = f .max; before = f .before; verdict = judged (f .verdict) })
-toldFit (Refused r) =
-    refused r (record { cal = identity; mean = tenths 0; max = tenths 0; before = tenths 0; verdict = none })
+    answered (record { cal = f .cal; mean = f .mean; max = f .max; before = f .before; verdict = judged (f .verdict); place = place 0 })
+toldFit (Refused r) = refused r (unmeasured (place 0))
+toldFit (Steep p) = refused Refusal.Steep (unmeasured p)

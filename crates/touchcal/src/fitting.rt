@@ -1,10 +1,12 @@
 // The fit of a calibration to taps: the solution of the least squares, how far the taps are from it
 // and how far they were without it, and the verdict.
 ghost use mathlib.Core.Path.{_≡_};
-ghost use Rattle.touchcal.specs.Fits.{judgedBy, fitWith, weighed};
+ghost use Rattle.touchcal.specs.Fits.{judgedBy, fitWith, weighed, unfitBy};
 ghost use Rattle.touchcal.specs.Held.{foundOf, fitFirst, fitHeld};
 use crate::floats;
+use crate::floats::CoefPlace;
 use crate::solving;
+use crate::solving::Fault;
 use crate::solving::Solved;
 use calmap::Cal;
 use calmap::CheckAnswer;
@@ -32,9 +34,11 @@ pub struct Fit {
     pub verdict: Verdict,
 }
 
+// STEEP alone carries a value, and so it stands by itself: `Refused` never says it.
 pub enum FitAnswer {
     Answered(Fit),
     Refused(Refusal),
+    Steep(CoefPlace),
 }
 
 // The verdict of check, and then that of the largest residual.
@@ -86,6 +90,17 @@ pub fn weigh(c: Cal, after: ResidAnswer, before: ResidAnswer, check: CheckAnswer
     }
 }
 
+// Pairs that have no fit, by why they have none.
+fn unfit(f: Fault) -> FitAnswer
+    ensures { λ r. ⌜ r ≡ unfitBy f ⌝ }
+{
+    match f {
+        Fault::Few => FitAnswer::Refused(Refusal::Few),
+        Fault::Line => FitAnswer::Refused(Refusal::Line),
+        Fault::Steep(p) => FitAnswer::Steep(p),
+    }
+}
+
 // The calibration that was found, or none at all.
 fn found(s: Solved) -> Cal
     ensures { λ r. ⌜ r ≡ foundOf s ⌝ }
@@ -110,12 +125,14 @@ pub fn fit_of(pairs: [Pair; MAX_TAPS], n: usize, targets: [Point; MAX_TAPS], m: 
     if let CheckAnswer::Refused(r) = check {
         return FitAnswer::Refused(r);
     }
-    let Solved::Is(c) = s else {
-        return FitAnswer::Refused(Refusal::NoFit);
-    };
-    let after = calmap::resid_of(c, pairs, n);
-    let before = calmap::resid_of(none, pairs, n);
-    weigh(c, after, before, check)
+    match s {
+        Solved::Is(c) => {
+            let after = calmap::resid_of(c, pairs, n);
+            let before = calmap::resid_of(none, pairs, n);
+            weigh(c, after, before, check)
+        }
+        Solved::Not(f) => unfit(f),
+    }
 }
 
 // The fit of what is held of lent lists.

@@ -6,7 +6,8 @@ ghost use lib.IntN.{pos};
 ghost use lib.Ieee.{lt, le};
 ghost use Rattle.touchcal.specs.Binary32.{cut};
 ghost use Rattle.touchcal.specs.Sizes.{half32, least32, most32};
-ghost use Rattle.touchcal.specs.Floats.{halfAway, q16Of, outOf, offIdentity, stepsOf, toF32Of, fromF32Of, identity};
+ghost use Rattle.touchcal.specs.Floats.{halfAway, q16Of, outOf, offIdentity, toF32Of, fromF32Of, identity};
+ghost use Rattle.touchcal.specs.Solutions.{steppedOf};
 use calmap::Cal;
 use calmap::Q16;
 use panel::Refusal;
@@ -40,6 +41,15 @@ pub struct Coefs {
     pub d: f32,
     pub e: f32,
     pub f: f32,
+}
+
+// The place of a coefficient: 0 for a to 5 for f, as c0 to c5 are counted.
+pub struct CoefPlace(pub u8);
+
+// Six coefficients in steps, or the first of them, a to f, that has none.
+pub(crate) enum Steps {
+    Are(Cal),
+    Beyond(CoefPlace),
 }
 
 // t without its fraction, from its bits: t is `digits`·2^(exponent - 150), of 24 digits, the first of which the bits
@@ -101,28 +111,28 @@ pub fn to_f32(c: Cal) -> Coefs
 }
 
 // Differences from the identity in steps, unless one of them is too large.
-pub(crate) fn in_steps(v: Coefs) -> CalAnswer
-    ensures { λ r. ⌜ r ≡ stepsOf v ⌝ }
+pub(crate) fn in_steps(v: Coefs) -> Steps
+    ensures { λ r. ⌜ r ≡ steppedOf v ⌝ }
 {
     let Q16Answer::Answered(c0) = q16(v.a) else {
-        return CalAnswer::Refused(Refusal::Huge);
+        return Steps::Beyond(CoefPlace(0));
     };
     let Q16Answer::Answered(c1) = q16(v.b) else {
-        return CalAnswer::Refused(Refusal::Huge);
+        return Steps::Beyond(CoefPlace(1));
     };
     let Q16Answer::Answered(c2) = q16(v.c) else {
-        return CalAnswer::Refused(Refusal::Huge);
+        return Steps::Beyond(CoefPlace(2));
     };
     let Q16Answer::Answered(c3) = q16(v.d) else {
-        return CalAnswer::Refused(Refusal::Huge);
+        return Steps::Beyond(CoefPlace(3));
     };
     let Q16Answer::Answered(c4) = q16(v.e) else {
-        return CalAnswer::Refused(Refusal::Huge);
+        return Steps::Beyond(CoefPlace(4));
     };
     let Q16Answer::Answered(c5) = q16(v.f) else {
-        return CalAnswer::Refused(Refusal::Huge);
+        return Steps::Beyond(CoefPlace(5));
     };
-    CalAnswer::Answered(Cal {
+    Steps::Are(Cal {
         c0,
         c1,
         c2,
@@ -150,7 +160,10 @@ fn off_identity(v: Coefs) -> Coefs
 pub fn from_f32(v: Coefs) -> CalAnswer
     ensures { λ r. ⌜ r ≡ fromF32Of v ⌝ }
 {
-    in_steps(off_identity(v))
+    match in_steps(off_identity(v)) {
+        Steps::Are(c) => CalAnswer::Answered(c),
+        Steps::Beyond(_) => CalAnswer::Refused(Refusal::Huge),
+    }
 }
 
 // No calibration: the identity.

@@ -15,6 +15,7 @@ pub use fitting::fit_of;
 pub use fitting::weigh;
 pub use floats::CalAnswer;
 pub use floats::Coefs;
+pub use floats::CoefPlace;
 pub use floats::Q16Answer;
 pub use floats::from_f32;
 pub use floats::no_cal;

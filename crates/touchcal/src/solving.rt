@@ -5,8 +5,9 @@ ghost use lib.ListN.{take};
 ghost use Rattle.calmap.specs.Sizes.{longest};
 ghost use Rattle.touchcal.specs.Solutions.{detOf, spreads, coefsOf, deltasOf, solvedOf};
 use crate::floats;
-use crate::floats::CalAnswer;
 use crate::floats::Coefs;
+use crate::floats::CoefPlace;
+use crate::floats::Steps;
 use crate::moments;
 use crate::moments::Moments;
 use crate::moments::Sums;
@@ -29,8 +30,8 @@ pub enum Fault {
     Few,
     // The raw taps are on one line, or nearly so, or too close together.
     Line,
-    // A coefficient is too large for steps.
-    Steep,
+    // A coefficient is too large for steps: the first of them, a to f.
+    Steep(CoefPlace),
 }
 
 pub enum Solved {
@@ -103,8 +104,8 @@ pub(crate) fn solve(pairs: [Pair; MAX_TAPS], n: usize) -> Solved
     let w = moments::moments_of(pairs, n);
     if is_spread(w.sums) {
         match floats::in_steps(deltas(plane(w))) {
-            CalAnswer::Answered(c) => Solved::Is(c),
-            CalAnswer::Refused(_) => Solved::Not(Fault::Steep),
+            Steps::Are(c) => Solved::Is(c),
+            Steps::Beyond(p) => Solved::Not(Fault::Steep(p)),
         }
     } else {
         Solved::Not(Fault::Line)

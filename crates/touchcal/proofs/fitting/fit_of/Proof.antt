@@ -42,18 +42,6 @@ enum-told c = search needs
 enum-known-s : tie.Need-enum-known-s
 enum-known-s c = search needs
 
-enum-told-2 : tie.Need-enum-told-2
-enum-told-2 c = search needs
-
-returns-3 : tie.Need-returns-3
-returns-3 c =
-    let e = c .before .before in
-    let k = e .before .before in
-    let s = k .before .before in
-    let a = s .before .before .before .args in
-    let judged = sym (k .check-of .ensures) ∙ e .enum-told .given .1 in
-    rw (fit-goes-on (a .n) (a .pairs) (a .m) (a .targets) (omega arith) _ _ judged, ← s .solve .ensures, c .enum-told2 .given .1)
-
 resid-of-requires : tie.Need-resid-of-requires
 resid-of-requires c κs = search needs
 
@@ -63,8 +51,14 @@ resid-of-requires-2 c κs = search needs
 weigh-requires : tie.Need-weigh-requires
 weigh-requires c κs = search needs
 
-returns-4 : tie.Need-returns-4
-returns-4 c =
+enum-known-s-2 : tie.Need-enum-known-s-2
+enum-known-s-2 c = search needs
+
+unfit-requires : tie.Need-unfit-requires
+unfit-requires c κs = search needs
+
+returns-3 : tie.Need-returns-3
+returns-3 c =
     let r = c .before .before in
     let is = r .before .before in
     let e = is .before .before in
@@ -91,6 +85,16 @@ returns-4 c =
       none .no-cal .ensures,
     )
 
+returns-4 : tie.Need-returns-4
+returns-4 c =
+    let not = c .before .before in
+    let e = not .before .before in
+    let k = e .before .before in
+    let s = k .before .before in
+    let a = s .before .before .before .args in
+    let judged = sym (k .check-of .ensures) ∙ e .enum-told .given .1 in
+    rw (fit-goes-on (a .n) (a .pairs) (a .m) (a .targets) (omega arith) _ _ judged, ← s .solve .ensures, not .s2 .given .1) (c .unfit .ensures)
+
 pub fit-of-spec : {M : Type 1} → statement M
 fit-of-spec =
     tie.close
@@ -104,9 +108,10 @@ fit-of-spec =
     returns-2
     enum-told
     enum-known-s
-    enum-told-2
-    returns-3
     resid-of-requires
     resid-of-requires-2
     weigh-requires
+    enum-known-s-2
+    unfit-requires
+    returns-3
     returns-4)

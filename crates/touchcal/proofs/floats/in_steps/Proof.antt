@@ -1,5 +1,6 @@
 -- `touchcal::floats::in_steps` meets its contract. Assumes nothing.
 use Rattle.touchcal.specs.Floats.{stepsOf, inSteps}
+use Rattle.touchcal.specs.Solutions.{steppedOf, firstRefused}
 use borrow.Author.Needs.{needs}
 use Rattle.touchcal.proofs.floats.in_steps.Statement.{statement}
 use Rattle.touchcal.proofs.floats.in_steps.Tie as tie
@@ -14,7 +15,7 @@ enum-told : tie.Need-enum-told
 enum-told c = search needs
 
 returns : tie.Need-returns
-unfolding stepsOf inSteps
+unfolding steppedOf stepsOf inSteps firstRefused
 returns c =
     let a1 = c .before .before in
     rw (← a1 .q16 .ensures, c .enum-told .given .1)
@@ -29,7 +30,7 @@ enum-told-2 : tie.Need-enum-told-2
 enum-told-2 c = search needs
 
 returns-2 : tie.Need-returns-2
-unfolding stepsOf inSteps
+unfolding steppedOf stepsOf inSteps firstRefused
 returns-2 c =
     let a2 = c .before .before in
     let k1 = a2 .before .before in
@@ -46,7 +47,7 @@ enum-told-3 : tie.Need-enum-told-3
 enum-told-3 c = search needs
 
 returns-3 : tie.Need-returns-3
-unfolding stepsOf inSteps
+unfolding steppedOf stepsOf inSteps firstRefused
 returns-3 c =
     let a3 = c .before .before in
     let k2 = a3 .before .before in
@@ -65,7 +66,7 @@ enum-told-4 : tie.Need-enum-told-4
 enum-told-4 c = search needs
 
 returns-4 : tie.Need-returns-4
-unfolding stepsOf inSteps
+unfolding steppedOf stepsOf inSteps firstRefused
 returns-4 c =
     let a4 = c .before .before in
     let k3 = a4 .before .before in
@@ -86,7 +87,7 @@ enum-told-5 : tie.Need-enum-told-5
 enum-told-5 c = search needs
 
 returns-5 : tie.Need-returns-5
-unfolding stepsOf inSteps
+unfolding steppedOf stepsOf inSteps firstRefused
 returns-5 c =
     let a5 = c .before .before in
     let k4 = a5 .before .before in
@@ -109,7 +110,7 @@ enum-told-6 : tie.Need-enum-told-6
 enum-told-6 c = search needs
 
 returns-6 : tie.Need-returns-6
-unfolding stepsOf inSteps
+unfolding steppedOf stepsOf inSteps firstRefused
 returns-6 c =
     let a6 = c .before .before in
     let k5 = a6 .before .before in
@@ -125,7 +126,7 @@ returns-6 c =
     rw (← a1 .q16 .ensures, k1 .c0 .given .1, ← a2 .q162 .ensures, k2 .c1 .given .1, ← a3 .q163 .ensures, k3 .c2 .given .1, ← a4 .q164 .ensures, k4 .c3 .given .1, ← a5 .q165 .ensures, k5 .c4 .given .1, ← a6 .q166 .ensures, c .enum-told6 .given .1)
 
 returns-7 : tie.Need-returns-7
-unfolding stepsOf inSteps
+unfolding steppedOf stepsOf inSteps firstRefused
 returns-7 c =
     let k6 = c .before in
     let a6 = k6 .before .before in

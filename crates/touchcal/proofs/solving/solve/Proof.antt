@@ -36,8 +36,8 @@ in-steps-requires c κs = search needs
 enum-known-c : tie.Need-enum-known-c
 enum-known-c c = search needs
 
-enum-told : tie.Need-enum-told
-enum-told c = search needs
+enum-known-p : tie.Need-enum-known-p
+enum-known-p c = search needs
 
 returns-2 : tie.Need-returns-2
 unfolding solvedOf
@@ -53,12 +53,13 @@ returns-2 c =
 returns-3 : tie.Need-returns-3
 unfolding solvedOf
 returns-3 c =
-    let i = c .before .before in
+    let k = c .before in
+    let i = k .before .before in
     let m = i .before .before .before .before .before in
     let s = m .before .before in
     let many = first-many (s .args .n) (s .args .pairs) (omega arith) in
     let enough : fewest ≤ length (take (s .args .n) (s .args .pairs)) = omega arith in
-    search (follow, ← m .moments-of .ensures, ← i .before .before .before .before .is-spread .ensures, ← i .before .before .plane .ensures, ← i .before .deltas .ensures, ← i .in-steps .ensures, c .enum-told .given .1)
+    search (follow, ← m .moments-of .ensures, ← i .before .before .before .before .is-spread .ensures, ← i .before .before .plane .ensures, ← i .before .deltas .ensures, ← i .in-steps .ensures, k .p .given .1)
 
 returns-4 : tie.Need-returns-4
 unfolding solvedOf
@@ -80,7 +81,7 @@ solve-spec =
     deltas-requires
     in-steps-requires
     enum-known-c
-    enum-told
+    enum-known-p
     returns-2
     returns-3
     returns-4)

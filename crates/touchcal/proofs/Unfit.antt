@@ -1,0 +1,183 @@
+-- Where the Rust's `fit` says `None`, and what is said there in its place: exactly one of FEW, LINE and STEEP, and none of
+-- them anywhere else. Assumes nothing.
+use Prim.Native.Nat.{ℕ, _<_}
+use mathlib.Core.Path.{_≡_, refl, sym, ap, _∙_}
+use mathlib.Core.Bool.{Bool, true, false, not}
+use mathlib.Core.List.{List}
+use native.Mathlib.Omega.{arith}
+use lib.Ieee.{Float, nan, inf, fin, lt}
+use lib.ListN.{length}
+use Rattle.panel.specs.Tests.{if_then_else_, _and_, _or_, _<?_, _=?_}
+use Rattle.panel.specs.Points.{allOnPanel}
+use Rattle.panel.specs.declared.points.Point.{Point}
+use Rattle.panel.specs.declared.refusals.Refusal.the-variants as Refusal
+use Rattle.calmap.specs.Distances.{tenthsOf}
+use Rattle.calmap.specs.Sizes.{longest}
+use Rattle.panel.proofs.Follow.{if-true, if-false}
+use Rattle.calmap.specs.Resids.{Misses, known, wide, missesOf}
+use Rattle.calmap.specs.declared.units.Cal.{Cal}
+use Rattle.calmap.specs.declared.units.Pair.{Pair}
+use Rattle.touchcal.specs.Binary32.{_⊗_, _⊲_}
+use Rattle.touchcal.specs.Sizes.{thin32, leastSum32}
+use Rattle.touchcal.specs.Floats.{identity}
+use Rattle.touchcal.specs.Moments.{momentsOf}
+use Rattle.touchcal.specs.Solutions.{detOf, spreads, inOrder}
+use Rattle.touchcal.specs.Fits.{fitBy, fitOf, toldFit}
+use Rattle.touchcal.specs.declared.floats.CoefPlace.{CoefPlace}
+use Rattle.touchcal.specs.declared.moments.Sums.{Sums}
+use Rattle.touchcal.specs.declared.solving.Fault.the-variants.{Few, Line}
+use Rattle.touchcal.specs.declared.solving.Fault.the-variants as Fault
+use Rattle.touchcal.specs.declared.solving.Solved.the-variants.{Is, Not}
+use Rattle.touchcal.specs.declared.fitting.FitAnswer.{FitAnswer}
+use Rattle.touchcal.specs.declared.fitting.FitAnswer.the-variants.{Refused, Steep}
+use Rattle.touchcal.proofs.Reach.{nearestCal, First, steep-first, first-below}
+use Rattle.touchcal.proofs.Fitted.{deltas, few, spread, near, first, solved-are, unfit-exactly, tells, zeros, bySolution, byMisses}
+use Rattle.touchcal.proofs.Promises.{fit-tells}
+
+-- ---- a NaN on either side of the spread test is LINE
+
+under-nan : (x : Float) → x ⊲ nan ≡ false
+unfolding lt
+under-nan nan = refl
+under-nan (inf s) = refl
+under-nan (fin s m e) = refl
+
+pub nan-det : (s : Sums) → detOf s ≡ nan → spreads s ≡ false
+unfolding spreads _and_
+nan-det s e = rw (e, under-nan (thin32 ⊗ s .sxx ⊗ s .syy))
+
+pub nan-thin : (s : Sums) → thin32 ⊗ s .sxx ⊗ s .syy ≡ nan → spreads s ≡ false
+unfolding spreads _and_ lt
+nan-thin s e = rw e
+
+-- the Rust's `!(det > 1e-3 * sxx * syy) || sxx < 1.0 || syy < 1.0`
+abbrev pub rustLine : Sums → Bool
+rustLine s = not (thin32 ⊗ s .sxx ⊗ s .syy ⊲ detOf s) or s .sxx ⊲ leastSum32 or s .syy ⊲ leastSum32
+
+turned : (a b c : Bool) → not (a and not b and not c) ≡ not a or b or c
+unfolding _and_ _or_
+turned false b c = refl
+turned true true c = refl
+turned true false true = refl
+turned true false false = refl
+
+pub line-is : (s : Sums) → not (spreads s) ≡ rustLine s
+unfolding spreads
+line-is s = turned _ _ _
+
+-- ---- which number comes where
+
+-- WIDE, or none
+abbrev measured : Misses → Misses → ℕ
+measured (known ds) (known before) = 0
+measured (known ds) wide = 3
+measured wide before = 3
+
+abbrev numberBy : Bool → Bool → Bool → Bool → Bool → ℕ → ℕ
+numberBy long on f s n m = if long then 4 else if on then (if f then 6 else if s then (if n then m else 17) else 16) else 5
+
+-- which of the three a number says
+pub record Said : Type 0 where
+  pub few : Bool
+  pub line : Bool
+  pub steep : Bool
+
+abbrev pub said : ℕ → Said
+said n = record { few = n =? 6; line = n =? 16; steep = n =? 17 }
+
+measured-tells : (c : Cal) (ts : List Point) (ms before : Misses) → byMisses c ts ms before .number ≡ measured ms before
+measured-tells c ts (known ds) (known before) = refl
+measured-tells c ts (known ds) wide = refl
+measured-tells c ts wide before = refl
+
+say : (long on f s n : Bool) (ms before : Misses)
+    → said (numberBy long on f s n (measured ms before))
+    ≡ record { few = (not long and on) and f; line = (not long and on) and not f and not s; steep = (not long and on) and not f and s and not n }
+unfolding if_then_else_ _and_
+say true on f s n ms before = refl
+say false false f s n ms before = refl
+say false true true s n ms before = refl
+say false true false false n ms before = refl
+say false true false true false ms before = refl
+say false true false true true (known ds) (known d0) = refl
+say false true false true true (known ds) wide = refl
+say false true false true true wide before = refl
+
+-- the Rust's `None` is one of the three, whichever
+joined : (asked f s n : Bool) → (asked and f) or (asked and not f and not s) or (asked and not f and s and not n) ≡ asked and (f or not s or not n)
+unfolding _and_ _or_
+joined false f s n = refl
+joined true true s n = refl
+joined true false false n = refl
+joined true false true n = refl
+
+-- only a coefficient out of reach is 17
+seventeen : {X : Type 0} (long on f s n : Bool) (ms before : Misses) → numberBy long on f s n (measured ms before) ≡ 17
+    → (long ≡ false → on ≡ true → f ≡ false → s ≡ true → n ≡ false → X) → X
+unfolding if_then_else_
+seventeen true on f s n ms before e go = absurd (omega arith)
+seventeen false false f s n ms before e go = absurd (omega arith)
+seventeen false true true s n ms before e go = absurd (omega arith)
+seventeen false true false false n ms before e go = absurd (omega arith)
+seventeen false true false true false ms before e go = go refl refl refl refl refl
+seventeen false true false true true (known ds) (known d0) e go = absurd (omega arith)
+seventeen false true false true true (known ds) wide e go = absurd (omega arith)
+seventeen false true false true true wide before e go = absurd (omega arith)
+
+module _ (ps : List Pair) (ts : List Point) where
+  abbrev long : Bool
+  long = longest <? length ps or longest <? length ts
+
+  -- neither LONG nor TARGET
+  abbrev pub asked : Bool
+  asked = not long and allOnPanel ts
+
+  -- the Rust says `None`: `n < 3`, the spread test, one of the six `q16(..)?`
+  abbrev pub rustNone : Bool
+  rustNone = few ps or rustLine (momentsOf ps .sums) or not (near ps)
+
+  abbrev taps : Misses
+  taps = missesOf (nearestCal (deltas ps)) ps
+
+  number-by : (l on f s n : Bool) (p : CoefPlace)
+      → (if l then tells 4 zeros else if on then bySolution (if f then Not Few else if s then (if n then Is (nearestCal (deltas ps)) else Not (Fault.Steep p)) else Not Line) ps ts else tells 5 zeros) .number
+      ≡ numberBy l on f s n (measured taps (missesOf identity ps))
+  unfolding if_then_else_
+  number-by true on f s n p = refl
+  number-by false false f s n p = refl
+  number-by false true true s n p = refl
+  number-by false true false false n p = refl
+  number-by false true false true false p = refl
+  number-by false true false true true p = measured-tells (nearestCal (deltas ps)) ts taps (missesOf identity ps)
+
+  -- LONG, TARGET, FEW, LINE, STEEP and WIDE in this order
+  fit-number : toldFit (fitOf ps ts) .number ≡ numberBy long (allOnPanel ts) (few ps) (spread ps) (near ps) (measured taps (missesOf identity ps))
+  fit-number = rw (fit-tells ps ts, solved-are ps) (number-by long (allOnPanel ts) (few ps) (spread ps) (near ps) (first ps))
+
+  -- each of the three exactly where its test is the first to fail
+  pub why-exactly : said (toldFit (fitOf ps ts) .number)
+      ≡ record { few = asked and few ps; line = asked and not (few ps) and not (spread ps); steep = asked and not (few ps) and spread ps and not (near ps) }
+  why-exactly = rw fit-number (say long (allOnPanel ts) (few ps) (spread ps) (near ps) taps (missesOf identity ps))
+
+  -- one of the three exactly where the Rust says `None`
+  pub none-exactly : (let w = said (toldFit (fitOf ps ts) .number) in w .few or w .line or w .steep) ≡ (asked and rustNone)
+  none-exactly =
+      ap (λ (w : Said). w .few or w .line or w .steep) why-exactly
+      ∙ joined asked (few ps) (spread ps) (near ps)
+      ∙ ap (λ (b : Bool). asked and (few ps or b or not (near ps))) (line-is (momentsOf ps .sums))
+
+  -- STEEP always carries a place, that of the first coefficient out of reach
+  pub steep-told : toldFit (fitOf ps ts) .number ≡ 17 → (fitOf ps ts ≡ Steep (first ps)) × First (first ps .0) (inOrder (deltas ps))
+  unfolding fitBy
+  steep-told e =
+      seventeen long (allOnPanel ts) (few ps) (spread ps) (near ps) taps (missesOf identity ps) (sym fit-number ∙ e) (λ l on f s n.
+      (if-false _ _ _ l ∙ if-true _ _ _ on ∙ unfit-exactly tenthsOf ps ts ∙ if-false _ _ _ f ∙ if-true _ _ _ s ∙ if-false _ _ _ n, steep-first (deltas ps) n))
+
+  pub never-alone : fitOf ps ts ≡ Refused Refusal.Steep → ⊥
+  never-alone e =
+      let p = steep-told (ap (λ (a : FitAnswer). toldFit a .number) e) .0 in
+      let z : _≡_ {A = ℕ} 0 1 = cc in
+      absurd (omega arith)
+
+  pub steep-below : toldFit (fitOf ps ts) .number ≡ 17 → first ps .0 < 6
+  steep-below e = first-below (steep-told e .1)
