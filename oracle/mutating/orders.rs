@@ -5,14 +5,15 @@ use crate::sites::Mutant;
 const PUBLISHED: &str = "docs/src/firmware/src";
 const OWN: &str = "oracle/src";
 
-/// What stands in fit between LONG and the Rust's answer.
-const BEHIND_LONG: &str = "    if !targets.iter().all(|&(x, y)| on_panel(Point { x, y })) {
+/// What stands in fit between LONG and the Rust's answer, and each refusal that has its place behind it.
+const TARGET_IN_FIT: &str = "    if !targets.iter().all(|&(x, y)| on_panel(Point { x, y })) {
         return Err(alone(TARGET));
     }
     // where";
+const BEHIND_TARGET: [&str; 3] = ["FEW", "LINE", "STEEP"];
 
 /// Folder, file, what is wrong, the text as it stands, the wrong one.
-const ORDERS: [(&str, &str, &str, &str, &str); 19] = [
+const ORDERS: [(&str, &str, &str, &str, &str); 16] = [
     (
         OWN,
         "numbers.rs",
@@ -93,45 +94,6 @@ const ORDERS: [(&str, &str, &str, &str, &str); 19] = [
     }
 ",
     ),
-    (
-        OWN,
-        "answers.rs",
-        "FEW before TARGET in fit",
-        BEHIND_LONG,
-        "    if let Some(why) = unfit(raw, tgt).filter(|why| why.0 == FEW) {
-        return Err(why);
-    }
-    if !targets.iter().all(|&(x, y)| on_panel(Point { x, y })) {
-        return Err(alone(TARGET));
-    }
-    // where",
-    ),
-    (
-        OWN,
-        "answers.rs",
-        "LINE before TARGET in fit",
-        BEHIND_LONG,
-        "    if let Some(why) = unfit(raw, tgt).filter(|why| why.0 == LINE) {
-        return Err(why);
-    }
-    if !targets.iter().all(|&(x, y)| on_panel(Point { x, y })) {
-        return Err(alone(TARGET));
-    }
-    // where",
-    ),
-    (
-        OWN,
-        "answers.rs",
-        "STEEP before TARGET in fit",
-        BEHIND_LONG,
-        "    if let Some(why) = unfit(raw, tgt).filter(|why| why.0 == STEEP) {
-        return Err(why);
-    }
-    if !targets.iter().all(|&(x, y)| on_panel(Point { x, y })) {
-        return Err(alone(TARGET));
-    }
-    // where",
-    ),
     // fewer than three pairs are on one line, and of taps on one line no coefficient is in reach
     (OWN, "answers.rs", "LINE before FEW in fit", "Err(Way::Few) => Some(alone(FEW)),", "Err(Way::Few) => Some(alone(LINE)),"),
     (OWN, "answers.rs", "STEEP before LINE in fit", "Err(Way::Line) => Some(alone(LINE)),", "Err(Way::Line) => Some((STEEP, 0.to_string())),"),
@@ -174,5 +136,9 @@ pub fn all(text: &dyn Fn(&str, &str) -> String) -> Vec<Mutant> {
         let line = 1 + t[..from].matches('\n').count();
         Mutant { file, line, column: 1, from, to, new, what: what.into() }
     };
-    ORDERS.iter().map(one).collect()
+    let before_target = BEHIND_TARGET.map(|why| {
+        let early = format!("    if let Some(why) = unfit(raw, tgt).filter(|why| why.0 == {why}) {{\n        return Err(why);\n    }}\n{TARGET_IN_FIT}");
+        one(&(OWN, "answers.rs", &format!("{why} before TARGET in fit"), TARGET_IN_FIT, &early))
+    });
+    ORDERS.iter().map(one).chain(before_target).collect()
 }
