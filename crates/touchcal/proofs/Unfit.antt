@@ -22,7 +22,7 @@ use Rattle.touchcal.specs.Sizes.{thin32, leastSum32}
 use Rattle.touchcal.specs.Floats.{identity}
 use Rattle.touchcal.specs.Moments.{momentsOf}
 use Rattle.touchcal.specs.Solutions.{detOf, spreads, inOrder}
-use Rattle.touchcal.specs.Fits.{fitBy, fitOf, toldFit}
+use Rattle.touchcal.specs.Fits.{fitOf, toldFit}
 use Rattle.touchcal.specs.declared.floats.CoefPlace.{CoefPlace}
 use Rattle.touchcal.specs.declared.moments.Sums.{Sums}
 use Rattle.touchcal.specs.declared.solving.Fault.the-variants.{Few, Line}
@@ -31,8 +31,9 @@ use Rattle.touchcal.specs.declared.solving.Solved.the-variants.{Is, Not}
 use Rattle.touchcal.specs.declared.fitting.FitAnswer.{FitAnswer}
 use Rattle.touchcal.specs.declared.fitting.FitAnswer.the-variants.{Refused, Steep}
 use Rattle.touchcal.proofs.Reach.{nearestCal, First, steep-first, first-below}
-use Rattle.touchcal.proofs.Fitted.{deltas, few, spread, near, first, solved-are, unfit-exactly, tells, zeros, bySolution, byMisses}
+use Rattle.touchcal.proofs.Fitted.{deltas, few, spread, near, first, solved-are, unfit-exactly, fit-is, tells, zeros, bySolution, byMisses}
 use Rattle.touchcal.proofs.Promises.{fit-tells}
+use Rattle.touchcal.proofs.Choices.{neither-left, neither-right}
 
 -- ---- a NaN on either side of the spread test is LINE
 
@@ -168,10 +169,9 @@ module _ (ps : List Pair) (ts : List Point) where
 
   -- STEEP always carries a place, that of the first coefficient out of reach
   pub steep-told : toldFit (fitOf ps ts) .number ≡ 17 → (fitOf ps ts ≡ Steep (first ps)) × First (first ps .0) (inOrder (deltas ps))
-  unfolding fitBy
   steep-told e =
       seventeen long (allOnPanel ts) (few ps) (spread ps) (near ps) taps (missesOf identity ps) (sym fit-number ∙ e) (λ l on f s n.
-      (if-false _ _ _ l ∙ if-true _ _ _ on ∙ unfit-exactly tenthsOf ps ts ∙ if-false _ _ _ f ∙ if-true _ _ _ s ∙ if-false _ _ _ n, steep-first (deltas ps) n))
+      (fit-is ps ts (neither-left _ _ l) (neither-right _ _ l) on tenthsOf ∙ unfit-exactly tenthsOf ps ts ∙ if-false _ _ _ f ∙ if-true _ _ _ s ∙ if-false _ _ _ n, steep-first (deltas ps) n))
 
   pub never-alone : fitOf ps ts ≡ Refused Refusal.Steep → ⊥
   never-alone e =
