@@ -206,12 +206,16 @@ fn of_three(a: Pair, b: Pair, c: Pair) {
 
 // The taps (0, 0), (2, 0) and (0, 2), and where these should have been.
 fn spread(u0: i16, v0: i16, u1: i16, v1: i16, u2: i16, v2: i16) {
-    of_three(corner(0, 0, u0, v0), corner(2, 0, u1, v1), corner(0, 2, u2, v2));
+    of_three(
+        corner(0, 0, u0, v0),
+        corner(2, 0, u1, v1),
+        corner(0, 2, u2, v2),
+    );
 }
 
-// Why a fit fails, by the smallest taps: two; three on one line; three too close together, along both axes, along x,
-// along y. Then a coefficient beyond its steps, a to f, the targets one short of it in front of the first and the third;
-// and where several are, b and d, e and f, all six, the first of them.
+// Why a fit fails, by few taps close together: two; three on one line; three too close together, along both axes, along
+// x, along y. Then a coefficient beyond its steps, a to f, the targets one short of it in front of the first and the
+// third; and where several are, b and d, e and f, all six, the first of them.
 pub(crate) fn unfits() {
     of_two(corner(0, 0, 0, 0), corner(2, 0, 2, 0));
     of_three(corner(0, 0, 0, 0), corner(1, 1, 1, 1), corner(2, 2, 2, 2));
@@ -229,4 +233,43 @@ pub(crate) fn unfits() {
     spread(-30517, -30517, -30515, 30519, 30519, -30515);
     spread(0, -30518, 2, -30518, 0, 30520);
     spread(-32768, -32768, 32767, 32767, 32767, 32767);
+}
+
+// Three taps that are nearly on one line, up and down. All targets are (0, 0) but that of the tap between.
+fn upright(u: i16, v: i16) {
+    of_three(
+        corner(-1, 19, 0, 0),
+        corner(0, 0, u, v),
+        corner(1, -17, 0, 0),
+    );
+}
+
+// The same across.
+fn level(u: i16, v: i16) {
+    of_three(
+        corner(19, -1, 0, 0),
+        corner(0, 0, u, v),
+        corner(-17, 1, 0, 0),
+    );
+}
+
+// The same up and down, away from (0, 0).
+fn aside(u: i16, v: i16) {
+    of_three(
+        corner(25, -9, 0, 0),
+        corner(26, 0, u, v),
+        corner(27, 8, 0, 0),
+    );
+}
+
+// The smallest fits with a coefficient beyond its steps, a to f, and c with f: the sizes of the numbers add up to 1,734,
+// to 164 for c and f alone, and a search found none by less.
+pub(crate) fn steepest() {
+    upright(1696, 0);
+    level(1696, 0);
+    aside(69, 0);
+    upright(0, 1696);
+    level(0, 1696);
+    aside(0, 69);
+    aside(69, 69);
 }

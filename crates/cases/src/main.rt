@@ -15,6 +15,7 @@ fn main() {
     calibration::distances();
     calibration::fits();
     calibration::unfits();
+    calibration::steepest();
     tracker::trace();
     tracker::swipes();
     tracker::slop();

@@ -83,7 +83,7 @@ pub over-the-limit : fitOf (opposite 50 5) target ≡ Answered (record { cal = s
 unfolding fitBy solvedOf steppedOf momentsOf placeOf addPair sharedOf addAbout detOf spreads coefsOf deltasOf stepsOf inSteps q16Of inReach nearestStep halfAway residBy missesOf missOf largest applyOf line lineFits in32 in16 down digit rootBy squared gapOf tenthsOf checkOf verdictOf scaleHolds mild near stays allStay onPanel allOnPanel total mean if_then_else_ _and_ _or_ ofBits add sub mul div lt ofInt toSigned
 over-the-limit = refl
 
--- ---- each refusal, in its order, and the place that STEEP tells; the smallest taps of FEW, LINE and STEEP
+-- ---- each refusal, in its order, and the place that STEEP tells: FEW, LINE and STEEP by few taps close together
 
 abbrev off : List Point
 off = record { x = 480; y = 0 } ∷ []
@@ -128,6 +128,27 @@ pub refusals : map whyTold
     ≡ (4, 0) ∷ (5, 0) ∷ (6, 0) ∷ (16, 0) ∷ (16, 0) ∷ (16, 0) ∷ (16, 0) ∷ (0, 0) ∷ (3, 0) ∷ (17, 0) ∷ (17, 1) ∷ (0, 0) ∷ (17, 2) ∷ (17, 3) ∷ (17, 4) ∷ (17, 5) ∷ (17, 1) ∷ (17, 4) ∷ (17, 0) ∷ (3, 0) ∷ []
 unfolding fitBy solvedOf steppedOf firstRefused momentsOf placeOf addPair sharedOf addAbout detOf spreads coefsOf deltasOf stepsOf inSteps q16Of inReach nearestStep halfAway residBy missesOf missOf largest applyOf line lineFits in32 in16 down digit rootBy squared gapOf tenthsOf checkOf verdictOf scaleHolds mild near stays allStay onPanel allOnPanel total mean if_then_else_ _and_ _or_ ofBits add sub mul div lt ofInt toSigned
 refusals = refl
+
+-- ---- the smallest fits with a coefficient beyond its steps, a to f, and c with f: three taps nearly on one line, all targets (0,0) but that of
+-- the one between. One short of it, before a and before c, there is a fit
+
+abbrev between : (x0 y0 x1 y1 x2 y2 : ℤ) → ℕ → ℕ → List Pair
+between x0 y0 x1 y1 x2 y2 u v = pair x0 y0 (pos 0) (pos 0) ∷ pair x1 y1 (pos u) (pos v) ∷ pair x2 y2 (pos 0) (pos 0) ∷ []
+
+abbrev upright : ℕ → ℕ → List Pair
+upright = between (negsuc 0) (pos 19) (pos 0) (pos 0) (pos 1) (negsuc 16)
+
+abbrev level : ℕ → ℕ → List Pair
+level = between (pos 19) (negsuc 0) (pos 0) (pos 0) (negsuc 16) (pos 1)
+
+abbrev aside : ℕ → ℕ → List Pair
+aside = between (pos 25) (negsuc 8) (pos 26) (pos 0) (pos 27) (pos 8)
+
+pub steepest : map (λ ps. whyTold (fitOf ps target))
+    (upright 1_695 0 ∷ upright 1_696 0 ∷ level 1_696 0 ∷ aside 68 0 ∷ aside 69 0 ∷ upright 0 1_696 ∷ level 0 1_696 ∷ aside 0 69 ∷ aside 69 69 ∷ [])
+    ≡ (0, 0) ∷ (17, 0) ∷ (17, 1) ∷ (0, 0) ∷ (17, 2) ∷ (17, 3) ∷ (17, 4) ∷ (17, 5) ∷ (17, 2) ∷ []
+unfolding fitBy solvedOf steppedOf firstRefused momentsOf placeOf addPair sharedOf addAbout detOf spreads coefsOf deltasOf stepsOf inSteps q16Of inReach nearestStep halfAway residBy missesOf missOf largest applyOf line lineFits in32 in16 down digit rootBy squared gapOf tenthsOf checkOf verdictOf scaleHolds mild near stays allStay onPanel allOnPanel total mean if_then_else_ _and_ _or_ ofBits add sub mul div lt ofInt toSigned
+steepest = refl
 
 -- ---- `q16` at its edges: NaN; s = 2.0e9, and the float below it; a half of a step either way; and the largest s below a half, which is
 -- 1 step: the half is added in f32, where the sum is 1

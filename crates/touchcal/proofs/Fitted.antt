@@ -67,9 +67,10 @@ solved-are ps = rw (stepped-are (deltas ps), if-of ofSteps (near ps) _ _)
 -- FEW, LINE and STEEP, and behind them what is measured
 pub unfit-exactly : (rule : Rule) (ps : List Pair) (ts : List Point)
     → fittedBy rule (solvedOf ps) ps ts
-    ≡ (if few ps then Refused Refusal.Few
-      else if spread ps then (if near ps then weighed (nearestCal (deltas ps)) (residBy rule (nearestCal (deltas ps)) ps) (residBy rule identity ps) (checkOf (nearestCal (deltas ps)) ts) else Steep (first ps))
-      else Refused Refusal.Line)
+    ≡ (let c = nearestCal (deltas ps) in
+    if few ps then Refused Refusal.Few
+    else if spread ps then (if near ps then weighed c (residBy rule c ps) (residBy rule identity ps) (checkOf c ts) else Steep (first ps))
+    else Refused Refusal.Line)
 unfolding if_then_else_
 unfit-exactly rule ps ts = rw (solved-are ps) (go (few ps) (spread ps) (near ps) (nearestCal (deltas ps)) (first ps))
   where
