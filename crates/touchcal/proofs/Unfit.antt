@@ -11,9 +11,9 @@ use Rattle.panel.specs.Tests.{if_then_else_, _and_, _or_, _<?_, _=?_}
 use Rattle.panel.specs.Points.{allOnPanel}
 use Rattle.panel.specs.declared.points.Point.{Point}
 use Rattle.panel.specs.declared.refusals.Refusal.the-variants as Refusal
-use Rattle.calmap.specs.Distances.{tenthsOf}
-use Rattle.calmap.specs.Sizes.{longest}
 use Rattle.panel.proofs.Follow.{if-true, if-false}
+use Rattle.calmap.specs.Sizes.{longest}
+use Rattle.calmap.specs.Distances.{tenthsOf}
 use Rattle.calmap.specs.Resids.{Misses, known, wide, missesOf}
 use Rattle.calmap.specs.declared.units.Cal.{Cal}
 use Rattle.calmap.specs.declared.units.Pair.{Pair}
@@ -173,11 +173,13 @@ module _ (ps : List Pair) (ts : List Point) where
       seventeen long (allOnPanel ts) (few ps) (spread ps) (near ps) taps (missesOf identity ps) (sym fit-number ∙ e) (λ l on f s n.
       (fit-is ps ts (neither-left _ _ l) (neither-right _ _ l) on tenthsOf ∙ unfit-exactly tenthsOf ps ts ∙ if-false _ _ _ f ∙ if-true _ _ _ s ∙ if-false _ _ _ n, steep-first (deltas ps) n))
 
+  -- a refusal without a place is never STEEP
   pub never-alone : fitOf ps ts ≡ Refused Refusal.Steep → ⊥
   never-alone e =
       let p = steep-told (ap (λ (a : FitAnswer). toldFit a .number) e) .0 in
       let z : _≡_ {A = ℕ} 0 1 = cc in
       absurd (omega arith)
 
+  -- one of six
   pub steep-below : toldFit (fitOf ps ts) .number ≡ 17 → first ps .0 < 6
   steep-below e = first-below (steep-told e .1)
