@@ -68,7 +68,7 @@ fn fitted(sum: u64, a: FitAnswer) -> u64 {
     match a {
         FitAnswer::Answered(f) => with_fit(sum, f),
         FitAnswer::Refused(_) => fold::with(sum, 1),
-        FitAnswer::Steep(_) => fold::with(sum, 1),
+        FitAnswer::Steep(p) => fold::with(sum, p.0 as u64),
     }
 }
 

@@ -62,8 +62,8 @@ pub(crate) fn stop_line(out: &mut [u8], at: usize, why: Refusal, o: usize) -> us
     ensures { λ r. ⌜ Written (now (out .entry)) at (stopLine (numberOf why) o) r (now (out .exit)) ⌝ }
     ensures { λ r. ⌜ r ≤ at + lineMost ⌝ }
 {
-    let a = words::say(out, at, b"stopped");
     let n = panel::number(why);
+    let a = words::say(out, at, b"stopped");
     let b = words::value(out, a, n as u64);
     let c = words::word(out, b, b"at");
     let d = words::large(out, c, o as u64);

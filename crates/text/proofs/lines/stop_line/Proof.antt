@@ -6,14 +6,14 @@ use borrow.Author.Needs.{needs}
 use Rattle.text.proofs.lines.stop_line.Statement.{statement}
 use Rattle.text.proofs.lines.stop_line.Tie as tie
 
+number-requires : tie.Need-number-requires
+number-requires c κs = search needs
+
 slice-aggregate-say : tie.Need-slice-aggregate-say
 slice-aggregate-say c = search needs
 
 say-requires : tie.Need-say-requires
 say-requires c κs = search needs
-
-number-requires : tie.Need-number-requires
-number-requires c κs = search needs
 
 cast-value : tie.Need-cast-value
 cast-value c = search needs
@@ -31,22 +31,38 @@ large-requires : tie.Need-large-requires
 large-requires c κs = search needs
 
 finish-requires : tie.Need-finish-requires
-finish-requires c κs = omega (arith, c .before .before .before .before .before .before .before .before .before .before .before .before .before .before .before .before .before .say .ensures .ends, c .before .before .before .before .before .before .before .before .before .before .before .before .value .ensures .1 .1 (number-two (c .before .before .before .before .before .before .before .before .before .before .before .before .before .before .before .before .before .before .before .before .before .args .why) _ (c .before .before .before .before .before .before .before .before .before .before .before .before .before .before .number .ensures)), c .before .before .before .before .before .before .before .word .ensures .1, c .before .before .before .large .ensures .1)
+finish-requires c κs =
+    let large = c .before .before .before in
+    let at = large .before .before .before .before in
+    let number = at .before .before .before .before .before in
+    let stopped = number .before .before .before .before in
+    let found = stopped .before .before .before in
+    omega (arith, stopped .say .ensures .ends, number .value .ensures .1 .1 (number-two (found .before .before .args .why) _ (found .number .ensures)), at .word .ensures .1, large .large .ensures .1)
 
 same-length : tie.Need-same-length
 same-length c = search needs
 
 returns : tie.Need-returns
 unfolding ascii
-returns c = (stop-of (c .before .before .before .before .before .before .before .before .before .before .before .before .before .before .before .before .before .before .before .before .before .before .before .before .args .why) _ (c .before .before .before .before .before .before .before .before .before .before .before .before .before .before .before .before .before .before .before .before .before .before .before .before .args .o) (c .before .before .before .before .before .before .before .before .before .before .before .before .before .before .before .before .before .number .ensures) (c .before .before .before .before .before .before .before .before .before .before .before .before .before .before .before .before .before .before .before .before .say .ensures) (c .before .before .before .before .before .before .before .before .before .before .before .before .before .before .before .value .ensures .0) (c .before .before .before .before .before .before .before .before .before .before .word .ensures .0) (c .before .before .before .before .before .before .large .ensures .0) (c .before .before .finish .ensures .0), omega (arith, c .before .before .before .before .before .before .before .before .before .before .before .before .before .before .before .before .before .before .before .before .say .ensures .ends, c .before .before .before .before .before .before .before .before .before .before .before .before .before .before .before .value .ensures .1 .1 (number-two (c .before .before .before .before .before .before .before .before .before .before .before .before .before .before .before .before .before .before .before .before .before .before .before .before .args .why) _ (c .before .before .before .before .before .before .before .before .before .before .before .before .before .before .before .before .before .number .ensures)), c .before .before .before .before .before .before .before .before .before .before .word .ensures .1, c .before .before .before .before .before .before .large .ensures .1, c .before .before .finish .ensures .1))
+returns c =
+    let end = c .before .before in
+    let large = end .before .before .before .before in
+    let at = large .before .before .before .before in
+    let number = at .before .before .before .before .before in
+    let stopped = number .before .before .before .before in
+    let found = stopped .before .before .before in
+    let a = found .before .before .args in (
+      stop-of (a .why) _ (a .o) (found .number .ensures) (stopped .say .ensures) (number .value .ensures .0) (at .word .ensures .0) (large .large .ensures .0) (end .finish .ensures .0),
+      omega (arith, stopped .say .ensures .ends, number .value .ensures .1 .1 (number-two (a .why) _ (found .number .ensures)), at .word .ensures .1, large .large .ensures .1, end .finish .ensures .1),
+    )
 
 pub stop-line-spec : {M : Type 1} → statement M
 stop-line-spec =
     tie.close
     (tie.spec
+    number-requires
     slice-aggregate-say
     say-requires
-    number-requires
     cast-value
     value-requires
     slice-aggregate-word
