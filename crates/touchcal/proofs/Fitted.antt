@@ -33,10 +33,9 @@ use Rattle.touchcal.specs.Solutions.{spreads, coefsOf, deltasOf, firstRe
 use Rattle.touchcal.specs.Fits.{judgedBy, fitWith, weighed, fittedBy, fitBy, Tells, unmeasured, toldFit}
 use Rattle.touchcal.specs.declared.floats.Coefs.{Coefs}
 use Rattle.touchcal.specs.declared.floats.CoefPlace.{CoefPlace}
-use Rattle.touchcal.specs.declared.solving.Fault.the-variants.{Few, Line}
-use Rattle.touchcal.specs.declared.solving.Fault.the-variants as Fault
 use Rattle.touchcal.specs.declared.solving.Solved.{Solved}
-use Rattle.touchcal.specs.declared.solving.Solved.the-variants.{Is, Not}
+use Rattle.touchcal.specs.declared.solving.Solved.the-variants.{Is, Few, Line}
+use Rattle.touchcal.specs.declared.solving.Solved.the-variants as Solved
 use Rattle.touchcal.specs.declared.fitting.Fit.{Fit}
 use Rattle.touchcal.specs.declared.fitting.FitAnswer.{FitAnswer}
 use Rattle.touchcal.specs.declared.fitting.FitAnswer.the-variants.{Answered, Refused, Steep}
@@ -60,7 +59,7 @@ near ps = allReach (deltas ps)
 abbrev pub first : List Pair → CoefPlace
 first ps = place (firstRefused (inOrder (deltas ps)))
 
-pub solved-are : (ps : List Pair) → solvedOf ps ≡ (if few ps then Not Few else if spread ps then (if near ps then Is (nearestCal (deltas ps)) else Not (Fault.Steep (first ps))) else Not Line)
+pub solved-are : (ps : List Pair) → solvedOf ps ≡ (if few ps then Few else if spread ps then (if near ps then Is (nearestCal (deltas ps)) else Solved.Steep (first ps)) else Line)
 unfolding solvedOf
 solved-are ps = rw (stepped-are (deltas ps), if-of ofSteps (near ps) _ _)
 
@@ -75,7 +74,7 @@ unfolding if_then_else_
 unfit-exactly rule ps ts = rw (solved-are ps) (go (few ps) (spread ps) (near ps) (nearestCal (deltas ps)) (first ps))
   where
     go : (f s n : Bool) (c : Cal) (p : CoefPlace)
-        → fittedBy rule (if f then Not Few else if s then (if n then Is c else Not (Fault.Steep p)) else Not Line) ps ts
+        → fittedBy rule (if f then Few else if s then (if n then Is c else Solved.Steep p) else Line) ps ts
         ≡ (if f then Refused Refusal.Few else if s then (if n then weighed c (residBy rule c ps) (residBy rule identity ps) (checkOf c ts) else Steep p) else Refused Refusal.Line)
     go true s n c p = refl
     go false true true c p = refl
@@ -114,9 +113,9 @@ byMisses c ts wide before = tells 3 zeros
 
 abbrev pub bySolution : Solved → List Pair → List Point → Told Tells
 bySolution (Is c) ps ts = byMisses c ts (missesOf c ps) (missesOf identity ps)
-bySolution (Not Few) ps ts = tells 6 zeros
-bySolution (Not Line) ps ts = tells 16 zeros
-bySolution (Not (Fault.Steep p)) ps ts = tells 17 (unmeasured p)
+bySolution Few ps ts = tells 6 zeros
+bySolution Line ps ts = tells 16 zeros
+bySolution (Solved.Steep p) ps ts = tells 17 (unmeasured p)
 
 misses-tell : (c : Cal) (ts : List Point) (ms before : Misses) → toldFit (weighed c (spreadBy tenthsOf ms) (spreadBy tenthsOf before) (Check.Answered (verdictOf c ts))) ≡ byMisses c ts ms before
 misses-tell c ts (known ds) (known d0) = refl
@@ -126,9 +125,9 @@ misses-tell c ts wide before = refl
 module _ (ps : List Pair) (ts : List Point) (few : longest <? length ps ≡ false) (few′ : longest <? length ts ≡ false) (on : allOnPanel ts ≡ true) where
   pub solution-tells : (s : Solved) → toldFit (fittedBy tenthsOf s ps ts) ≡ bySolution s ps ts
   solution-tells (Is c) = rw (resid-is ps ts few few′ on tenthsOf c, resid-is ps ts few few′ on tenthsOf identity, check-is ps ts few few′ on c) (misses-tell c ts (missesOf c ps) (missesOf identity ps))
-  solution-tells (Not Few) = refl
-  solution-tells (Not Line) = refl
-  solution-tells (Not (Fault.Steep p)) = refl
+  solution-tells Few = refl
+  solution-tells Line = refl
+  solution-tells (Solved.Steep p) = refl
 
 -- ---- the residuals and the verdict of a fit that is answered
 
@@ -157,9 +156,9 @@ fitted-back : (rule : Rule) (ps : List Pair) (ts : List Point) (s : Solved) (f :
 fitted-back rule ps ts (Is c) f e =
     let m = weighed-back rule ps ts c (residBy rule c ps) (residBy rule identity ps) (checkOf c ts) f refl refl refl e in
     (ap (λ (k : Cal). Is k) (m .0), m .1)
-fitted-back rule ps ts (Not Few) f e = never Refusal.Few f e
-fitted-back rule ps ts (Not Line) f e = never Refusal.Line f e
-fitted-back rule ps ts (Not (Fault.Steep p)) f e = let z : _≡_ {A = ℕ} 0 1 = cc in absurd (omega arith)
+fitted-back rule ps ts Few f e = never Refusal.Few f e
+fitted-back rule ps ts Line f e = never Refusal.Line f e
+fitted-back rule ps ts (Solved.Steep p) f e = let z : _≡_ {A = ℕ} 0 1 = cc in absurd (omega arith)
 
 answered-inside : (a b : Bool) (r r′ : Refusal) (x : FitAnswer) (f : Fit) → (if a then Refused r else if b then x else Refused r′) ≡ Answered f → x ≡ Answered f
 unfolding if_then_else_

@@ -23,7 +23,7 @@ use Rattle.touchcal.specs.Solutions.{solvedOf}
 use Rattle.touchcal.specs.Fits.{weighed, fittedBy, fitBy}
 use Rattle.touchcal.specs.Held.{fitFirstBy}
 use Rattle.touchcal.specs.declared.solving.Solved.{Solved}
-use Rattle.touchcal.specs.declared.solving.Solved.the-variants.{Is, Not}
+use Rattle.touchcal.specs.declared.solving.Solved.the-variants as Solved
 use Rattle.touchcal.specs.declared.fitting.Fit.{Fit}
 use Rattle.touchcal.specs.declared.fitting.FitAnswer.{FitAnswer}
 use Rattle.touchcal.specs.declared.fitting.FitAnswer.the-variants.{Answered, Refused, Steep}
@@ -53,8 +53,10 @@ module _ (a b : Rule) where
 
   same-fitted : (s : Solved) (ps : List Pair) (ts : List Point) (x : FitAnswer) → unanswered x ≡ true → fittedBy a s ps ts ≡ x → fittedBy b s ps ts ≡ x
   unfolding residBy
-  same-fitted (Is c) ps ts x h e = same-weighed (longest <? length ps) (missesOf c ps) (missesOf identity ps) c (checkOf c ts) x h e
-  same-fitted (Not f) ps ts x h e = e
+  same-fitted (Solved.Is c) ps ts x h e = same-weighed (longest <? length ps) (missesOf c ps) (missesOf identity ps) c (checkOf c ts) x h e
+  same-fitted Solved.Few ps ts x h e = e
+  same-fitted Solved.Line ps ts x h e = e
+  same-fitted (Solved.Steep p) ps ts x h e = e
 
   same-inside : (long on : Bool) (s : Solved) (ps : List Pair) (ts : List Point) (x : FitAnswer) → unanswered x ≡ true
       → (if long then Refused Refusal.Long else if on then fittedBy a s ps ts else Refused Refusal.Target) ≡ x

@@ -25,9 +25,8 @@ use Rattle.touchcal.specs.Solutions.{detOf, spreads, inOrder}
 use Rattle.touchcal.specs.Fits.{fitOf, toldFit}
 use Rattle.touchcal.specs.declared.floats.CoefPlace.{CoefPlace}
 use Rattle.touchcal.specs.declared.moments.Sums.{Sums}
-use Rattle.touchcal.specs.declared.solving.Fault.the-variants.{Few, Line}
-use Rattle.touchcal.specs.declared.solving.Fault.the-variants as Fault
-use Rattle.touchcal.specs.declared.solving.Solved.the-variants.{Is, Not}
+use Rattle.touchcal.specs.declared.solving.Solved.the-variants.{Is, Few, Line}
+use Rattle.touchcal.specs.declared.solving.Solved.the-variants as Solved
 use Rattle.touchcal.specs.declared.fitting.FitAnswer.{FitAnswer}
 use Rattle.touchcal.specs.declared.fitting.FitAnswer.the-variants.{Refused, Steep}
 use Rattle.touchcal.proofs.Reach.{nearestCal, First, steep-first, first-below}
@@ -141,7 +140,7 @@ module _ (ps : List Pair) (ts : List Point) where
   taps = missesOf (nearestCal (deltas ps)) ps
 
   number-by : (l on f s n : Bool) (p : CoefPlace)
-      → (if l then tells 4 zeros else if on then bySolution (if f then Not Few else if s then (if n then Is (nearestCal (deltas ps)) else Not (Fault.Steep p)) else Not Line) ps ts else tells 5 zeros) .number
+      → (if l then tells 4 zeros else if on then bySolution (if f then Few else if s then (if n then Is (nearestCal (deltas ps)) else Solved.Steep p) else Line) ps ts else tells 5 zeros) .number
       ≡ numberBy l on f s n (measured taps (missesOf identity ps))
   unfolding if_then_else_
   number-by true on f s n p = refl

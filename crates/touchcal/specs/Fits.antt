@@ -30,8 +30,6 @@ use Rattle.touchcal.specs.Sizes.{residLimit}
 use Rattle.touchcal.specs.Floats.{identity}
 use Rattle.touchcal.specs.Solutions.{place, solvedOf}
 use Rattle.touchcal.specs.declared.floats.CoefPlace.{CoefPlace}
-use Rattle.touchcal.specs.declared.solving.Fault.{Fault}
-use Rattle.touchcal.specs.declared.solving.Fault.the-variants as Fault
 use Rattle.touchcal.specs.declared.solving.Solved.{Solved}
 use Rattle.touchcal.specs.declared.solving.Solved.the-variants as Solved
 use Rattle.touchcal.specs.declared.fitting.Fit.{Fit}
@@ -56,15 +54,12 @@ weighed c (Resid.Answered s) (Resid.Answered s0) (Check.Refused r) = Refused r
 weighed c (Resid.Answered s) (Resid.Refused r) k = Refused r
 weighed c (Resid.Refused r) before k = Refused r
 
--- where the Rust says `None`, by why
-abbrev pub unfitBy : Fault → FitAnswer
-unfitBy Fault.Few = Refused Refusal.Few
-unfitBy Fault.Line = Refused Refusal.Line
-unfitBy (Fault.Steep p) = Steep p
-
+-- what is solved is measured and judged; where the Rust says `None`, it is said why
 abbrev pub fittedBy : Rule → Solved → List Pair → List Point → FitAnswer
 fittedBy rule (Solved.Is c) ps ts = weighed c (residBy rule c ps) (residBy rule identity ps) (checkOf c ts)
-fittedBy rule (Solved.Not f) ps ts = unfitBy f
+fittedBy rule Solved.Few ps ts = Refused Refusal.Few
+fittedBy rule Solved.Line ps ts = Refused Refusal.Line
+fittedBy rule (Solved.Steep p) ps ts = Steep p
 
 unfoldable pub fitBy : Rule → List Pair → List Point → FitAnswer
 fitBy rule ps ts =

@@ -22,7 +22,9 @@ use Rattle.touchcal.specs.declared.fitting.FitAnswer.the-variants.{Refus
 -- the calibration that was found, or none
 unfoldable pub foundOf : Solved → Cal
 foundOf (Solved.Is c) = c
-foundOf (Solved.Not f) = identity
+foundOf Solved.Few = identity
+foundOf Solved.Line = identity
+foundOf (Solved.Steep p) = identity
 
 -- the first n pairs and the first m targets, of arrays that hold 64
 unfoldable pub fitFirstBy : Rule → ℕ → List Pair → ℕ → List Point → FitAnswer

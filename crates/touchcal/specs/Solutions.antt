@@ -24,9 +24,8 @@ use Rattle.touchcal.specs.declared.floats.Steps.{Steps}
 use Rattle.touchcal.specs.declared.floats.Steps.the-variants.{Are, Beyond}
 use Rattle.touchcal.specs.declared.moments.Sums.{Sums}
 use Rattle.touchcal.specs.declared.moments.Moments.{Moments}
-use Rattle.touchcal.specs.declared.solving.Fault.the-variants.{Few, Line, Steep}
 use Rattle.touchcal.specs.declared.solving.Solved.{Solved}
-use Rattle.touchcal.specs.declared.solving.Solved.the-variants.{Is, Not}
+use Rattle.touchcal.specs.declared.solving.Solved.the-variants.{Is, Few, Line, Steep}
 
 unfoldable pub detOf : Sums → Float
 detOf s = s .sxx ⊗ s .syy ⊖ s .sxy ⊗ s .sxy
@@ -85,11 +84,11 @@ steppedOf v = orPlace (stepsOf v) (place (firstRefused (inOrder v)))
 
 abbrev pub ofSteps : Steps → Solved
 ofSteps (Are c) = Is c
-ofSteps (Beyond p) = Not (Steep p)
+ofSteps (Beyond p) = Steep p
 
 unfoldable pub solvedOf : List Pair → Solved
 solvedOf ps =
     let w = momentsOf ps in
-    if length ps <? fewest then Not Few
+    if length ps <? fewest then Few
     else if spreads (w .sums) then ofSteps (steppedOf (deltasOf (coefsOf w)))
-    else Not Line
+    else Line

@@ -1,12 +1,11 @@
 // The fit of a calibration to taps: the solution of the least squares, how far the taps are from it
 // and how far they were without it, and the verdict.
 ghost use mathlib.Core.Path.{_≡_};
-ghost use Rattle.touchcal.specs.Fits.{judgedBy, fitWith, weighed, unfitBy};
+ghost use Rattle.touchcal.specs.Fits.{judgedBy, fitWith, weighed};
 ghost use Rattle.touchcal.specs.Held.{foundOf, fitFirst, fitHeld};
 use crate::floats;
 use crate::floats::CoefPlace;
 use crate::solving;
-use crate::solving::Fault;
 use crate::solving::Solved;
 use calmap::Cal;
 use calmap::CheckAnswer;
@@ -90,24 +89,15 @@ pub fn weigh(c: Cal, after: ResidAnswer, before: ResidAnswer, check: CheckAnswer
     }
 }
 
-// Pairs that have no fit, by why they have none.
-fn unfit(f: Fault) -> FitAnswer
-    ensures { λ r. ⌜ r ≡ unfitBy f ⌝ }
-{
-    match f {
-        Fault::Few => FitAnswer::Refused(Refusal::Few),
-        Fault::Line => FitAnswer::Refused(Refusal::Line),
-        Fault::Steep(p) => FitAnswer::Steep(p),
-    }
-}
-
 // The calibration that was found, or none at all.
 fn found(s: Solved) -> Cal
     ensures { λ r. ⌜ r ≡ foundOf s ⌝ }
 {
     match s {
         Solved::Is(c) => c,
-        Solved::Not(_) => floats::no_cal(),
+        Solved::Few => floats::no_cal(),
+        Solved::Line => floats::no_cal(),
+        Solved::Steep(_) => floats::no_cal(),
     }
 }
 
@@ -131,7 +121,9 @@ pub fn fit_of(pairs: [Pair; MAX_TAPS], n: usize, targets: [Point; MAX_TAPS], m: 
             let before = calmap::resid_of(none, pairs, n);
             weigh(c, after, before, check)
         }
-        Solved::Not(f) => unfit(f),
+        Solved::Few => FitAnswer::Refused(Refusal::Few),
+        Solved::Line => FitAnswer::Refused(Refusal::Line),
+        Solved::Steep(p) => FitAnswer::Steep(p),
     }
 }
 

@@ -24,19 +24,15 @@ const THIN: f32 = 1e-3;
 // Raw taps whose squares along x or along y add up to less than this are in one place there.
 const LEAST: f32 = 1.0;
 
-// Why pairs have no fit.
-pub enum Fault {
+// What pairs come to: a calibration, or why they have none.
+pub enum Solved {
+    Is(Cal),
     // Fewer than three pairs.
     Few,
     // The raw taps are on one line, or nearly so, or too close together.
     Line,
     // A coefficient is too large for steps: the first of them, a to f.
     Steep(CoefPlace),
-}
-
-pub enum Solved {
-    Is(Cal),
-    Not(Fault),
 }
 
 // The determinant of the sums.
@@ -99,15 +95,15 @@ pub(crate) fn solve(pairs: [Pair; MAX_TAPS], n: usize) -> Solved
     ensures { λ r. ⌜ r ≡ solvedOf (take n pairs) ⌝ }
 {
     if n < FEWEST {
-        return Solved::Not(Fault::Few);
+        return Solved::Few;
     }
     let w = moments::moments_of(pairs, n);
     if is_spread(w.sums) {
         match floats::in_steps(deltas(plane(w))) {
             Steps::Are(c) => Solved::Is(c),
-            Steps::Beyond(p) => Solved::Not(Fault::Steep(p)),
+            Steps::Beyond(p) => Solved::Steep(p),
         }
     } else {
-        Solved::Not(Fault::Line)
+        Solved::Line
     }
 }

@@ -51,11 +51,14 @@ resid-of-requires-2 c κs = search needs
 weigh-requires : tie.Need-weigh-requires
 weigh-requires c κs = search needs
 
+enum-told-2 : tie.Need-enum-told-2
+enum-told-2 c = search needs
+
+enum-told-3 : tie.Need-enum-told-3
+enum-told-3 c = search needs
+
 enum-known-s-2 : tie.Need-enum-known-s-2
 enum-known-s-2 c = search needs
-
-unfit-requires : tie.Need-unfit-requires
-unfit-requires c κs = search needs
 
 returns-3 : tie.Need-returns-3
 returns-3 c =
@@ -87,13 +90,31 @@ returns-3 c =
 
 returns-4 : tie.Need-returns-4
 returns-4 c =
-    let not = c .before .before in
-    let e = not .before .before in
+    let e = c .before .before in
     let k = e .before .before in
     let s = k .before .before in
     let a = s .before .before .before .args in
     let judged = sym (k .check-of .ensures) ∙ e .enum-told .given .1 in
-    rw (fit-goes-on (a .n) (a .pairs) (a .m) (a .targets) (omega arith) _ _ judged, ← s .solve .ensures, not .s2 .given .1) (c .unfit .ensures)
+    rw (fit-goes-on (a .n) (a .pairs) (a .m) (a .targets) (omega arith) _ _ judged, ← s .solve .ensures, c .enum-told2 .given .1)
+
+returns-5 : tie.Need-returns-5
+returns-5 c =
+    let e = c .before .before in
+    let k = e .before .before in
+    let s = k .before .before in
+    let a = s .before .before .before .args in
+    let judged = sym (k .check-of .ensures) ∙ e .enum-told .given .1 in
+    rw (fit-goes-on (a .n) (a .pairs) (a .m) (a .targets) (omega arith) _ _ judged, ← s .solve .ensures, c .enum-told3 .given .1)
+
+returns-6 : tie.Need-returns-6
+returns-6 c =
+    let steep = c .before in
+    let e = steep .before .before in
+    let k = e .before .before in
+    let s = k .before .before in
+    let a = s .before .before .before .args in
+    let judged = sym (k .check-of .ensures) ∙ e .enum-told .given .1 in
+    rw (fit-goes-on (a .n) (a .pairs) (a .m) (a .targets) (omega arith) _ _ judged, ← s .solve .ensures, steep .s2 .given .1)
 
 pub fit-of-spec : {M : Type 1} → statement M
 fit-of-spec =
@@ -111,7 +132,10 @@ fit-of-spec =
     resid-of-requires
     resid-of-requires-2
     weigh-requires
+    enum-told-2
+    enum-told-3
     enum-known-s-2
-    unfit-requires
     returns-3
-    returns-4)
+    returns-4
+    returns-5
+    returns-6)

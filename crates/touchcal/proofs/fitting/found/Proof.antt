@@ -13,6 +13,18 @@ enum-told c = search needs
 no-cal-requires : tie.Need-no-cal-requires
 no-cal-requires c κs = search needs
 
+enum-told-2 : tie.Need-enum-told-2
+enum-told-2 c = search needs
+
+no-cal-requires-2 : tie.Need-no-cal-requires-2
+no-cal-requires-2 c κs = search needs
+
+enum-told-3 : tie.Need-enum-told-3
+enum-told-3 c = search needs
+
+no-cal-requires-3 : tie.Need-no-cal-requires-3
+no-cal-requires-3 c κs = search needs
+
 returns : tie.Need-returns
 unfolding foundOf
 returns c = rw (c .before .s .given .1)
@@ -21,5 +33,26 @@ returns-2 : tie.Need-returns-2
 unfolding foundOf
 returns-2 c = rw (c .before .enum-told .given .1) (c .no-cal .ensures)
 
+returns-3 : tie.Need-returns-3
+unfolding foundOf
+returns-3 c = rw (c .before .enum-told2 .given .1) (c .no-cal2 .ensures)
+
+returns-4 : tie.Need-returns-4
+unfolding foundOf
+returns-4 c = rw (c .before .enum-told3 .given .1) (c .no-cal3 .ensures)
+
 pub found-spec : {M : Type 1} → statement M
-found-spec = tie.close (tie.spec enum-known-s enum-told no-cal-requires returns returns-2)
+found-spec =
+    tie.close
+    (tie.spec
+    enum-known-s
+    enum-told
+    no-cal-requires
+    enum-told-2
+    no-cal-requires-2
+    enum-told-3
+    no-cal-requires-3
+    returns
+    returns-2
+    returns-3
+    returns-4)
