@@ -262,7 +262,7 @@ fn aside(u: i16, v: i16) {
     );
 }
 
-// The smallest fits with a coefficient beyond its steps, a to f, and c with f: the sizes of the numbers add up to 1,734,
+// The smallest fits found with a coefficient beyond its steps, a to f, and c with f: the sizes of the numbers add up to 1,734,
 // to 164 for c and f alone, and a search found none by less.
 pub(crate) fn steepest() {
     upright(1696, 0);

@@ -129,7 +129,7 @@ pub refusals : map whyTold
 unfolding fitBy solvedOf steppedOf firstRefused momentsOf placeOf addPair sharedOf addAbout detOf spreads coefsOf deltasOf stepsOf inSteps q16Of inReach nearestStep halfAway residBy missesOf missOf largest applyOf line lineFits in32 in16 down digit rootBy squared gapOf tenthsOf checkOf verdictOf scaleHolds mild near stays allStay onPanel allOnPanel total mean if_then_else_ _and_ _or_ ofBits add sub mul div lt ofInt toSigned
 refusals = refl
 
--- ---- the smallest fits with a coefficient beyond its steps, a to f, and c with f: three taps nearly on one line, all targets (0,0) but that of
+-- ---- the smallest fits found with a coefficient beyond its steps, a to f, and c with f: three taps nearly on one line, all targets (0,0) but that of
 -- the one between. One short of it, before a and before c, there is a fit
 
 abbrev between : (x0 y0 x1 y1 x2 y2 : ℤ) → ℕ → ℕ → List Pair

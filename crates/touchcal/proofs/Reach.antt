@@ -1,18 +1,19 @@
 -- Six coefficients at once: HUGE exactly where one of them is out of reach, and the place of the first that is. Assumes nothing.
 use Prim.Native.Nat.{ℕ, suc, _<_}
 use mathlib.Core.Path.{_≡_, refl, sym, ap, subst, _∙_}
-use mathlib.Core.Bool.{Bool, true, false, true≢false}
+use mathlib.Core.Bool.{Bool, true, false, not, true≢false}
 use mathlib.Core.List.{List, [], _∷_}
 use native.Mathlib.Omega.{arith}
 use lib.Ieee.{Float}
 use lib.ListN.{length}
-use Rattle.panel.specs.Tests.{if_then_else_, _and_}
+use Rattle.panel.specs.Tests.{if_then_else_, _and_, _or_}
 use Rattle.panel.specs.declared.refusals.Refusal.the-variants.{Huge}
 use Rattle.panel.proofs.Follow.{if-of, if-true, if-false}
 use Rattle.calmap.specs.declared.units.Q16.{Q16}
 use Rattle.calmap.specs.declared.units.Cal.{Cal}
 use Rattle.touchcal.specs.Floats.{inReach, nearestStep, q16Of, inSteps, stepsOf}
 use Rattle.touchcal.specs.Solutions.{passing, firstRefused, inOrder, place, orPlace, steppedOf}
+use Rattle.touchcal.specs.Nones.{ends, rustSteep, First, here, behind}
 use Rattle.touchcal.specs.declared.floats.Coefs.{Coefs}
 use Rattle.touchcal.specs.declared.floats.CoefPlace.{CoefPlace}
 use Rattle.touchcal.specs.declared.floats.Steps.the-variants.{Are, Beyond}
@@ -67,11 +68,7 @@ steps-answered v c e = steps-are v ∙ are-back (allReach v) c (nearestCal v) _ 
 pub steps-refused : (v : Coefs) (p : CoefPlace) → steppedOf v ≡ Beyond p → stepsOf v ≡ Refused Huge
 steps-refused v p e = steps-are v ∙ beyond-back (allReach v) (nearestCal v) _ p (sym (stepped-are v) ∙ e)
 
--- ---- which of them is the first: it is out of reach, and all before it are in reach
-
-pub data First : ℕ → List Float → Type 0 where
-  here : {v : Float} {vs : List Float} → inReach v ≡ false → First 0 (v ∷ vs)
-  behind : {k : ℕ} {v : Float} {vs : List Float} → inReach v ≡ true → First k vs → First (suc k) (v ∷ vs)
+-- ---- which of them is the first
 
 first-next : (v : Float) (vs : List Float) → firstRefused (v ∷ vs) ≡ (if inReach v then suc (firstRefused vs) else 0)
 unfolding firstRefused q16Of
@@ -94,6 +91,29 @@ first-of v vs false e h f = subst (λ (k : ℕ). First k (v ∷ vs)) (sym (first
 first-there : (vs : List Float) → every vs ≡ false → First (firstRefused vs) vs
 first-there [] h = absurd (true≢false h)
 first-there (v ∷ vs) h = first-of v vs (inReach v) refl h (first-there vs)
+
+-- ---- one of the six `q16(..)?` ends the call exactly where not all are in reach
+
+turned : (b : Bool) → (if b then false else true) ≡ not b
+unfolding if_then_else_
+turned true = refl
+turned false = refl
+
+ends-is : (v : Float) → ends (q16Of v) ≡ not (inReach v)
+unfolding q16Of
+ends-is v = if-of ends (inReach v) _ _ ∙ turned (inReach v)
+
+not-both : (a b : Bool) → not a or not b ≡ not (a and b)
+unfolding _and_ _or_
+not-both true b = refl
+not-both false b = refl
+
+some-end : (vs : List Float) → rustSteep vs ≡ not (every vs)
+some-end [] = refl
+some-end (v ∷ vs) = rw (ends-is v, some-end vs) (not-both (inReach v) (every vs))
+
+pub steep-is : (v : Coefs) → rustSteep (inOrder v) ≡ not (allReach v)
+steep-is v = some-end (inOrder v)
 
 pub steep-first : (v : Coefs) → allReach v ≡ false → First (firstRefused (inOrder v)) (inOrder v)
 steep-first v h = first-there (inOrder v) h

@@ -7,7 +7,7 @@ use mathlib.Core.List.{List}
 use native.Mathlib.Omega.{arith}
 use lib.Ieee.{Float, nan, inf, fin, lt}
 use lib.ListN.{length}
-use Rattle.panel.specs.Tests.{if_then_else_, _and_, _or_, _<?_, _=?_}
+use Rattle.panel.specs.Tests.{if_then_else_, _and_, _or_, _<?_}
 use Rattle.panel.specs.Points.{allOnPanel}
 use Rattle.panel.specs.declared.points.Point.{Point}
 use Rattle.panel.specs.declared.refusals.Refusal.the-variants as Refusal
@@ -23,13 +23,14 @@ use Rattle.touchcal.specs.Floats.{identity}
 use Rattle.touchcal.specs.Moments.{momentsOf}
 use Rattle.touchcal.specs.Solutions.{detOf, spreads, inOrder}
 use Rattle.touchcal.specs.Fits.{fitOf, toldFit}
+use Rattle.touchcal.specs.Nones.{rustLine, rustNone, asked, Said, said, howMany, First}
 use Rattle.touchcal.specs.declared.floats.CoefPlace.{CoefPlace}
 use Rattle.touchcal.specs.declared.moments.Sums.{Sums}
 use Rattle.touchcal.specs.declared.solving.Solved.the-variants.{Is, Few, Line}
 use Rattle.touchcal.specs.declared.solving.Solved.the-variants as Solved
 use Rattle.touchcal.specs.declared.fitting.FitAnswer.{FitAnswer}
 use Rattle.touchcal.specs.declared.fitting.FitAnswer.the-variants.{Refused, Steep}
-use Rattle.touchcal.proofs.Reach.{nearestCal, First, steep-first, first-below}
+use Rattle.touchcal.proofs.Reach.{nearestCal, steep-is, steep-first, first-below}
 use Rattle.touchcal.proofs.Fitted.{deltas, few, spread, near, first, solved-are, unfit-exactly, fit-is, tells, zeros, bySolution, byMisses}
 use Rattle.touchcal.proofs.Promises.{fit-tells}
 use Rattle.touchcal.proofs.Choices.{neither-left, neither-right}
@@ -50,9 +51,7 @@ pub nan-thin : (s : Sums) → thin32 ⊗ s .sxx ⊗ s .syy ≡ nan → spreads s
 unfolding spreads _and_ lt
 nan-thin s e = rw e
 
--- the Rust's `!(det > 1e-3 * sxx * syy) || sxx < 1.0 || syy < 1.0`
-abbrev pub rustLine : Sums → Bool
-rustLine s = not (thin32 ⊗ s .sxx ⊗ s .syy ⊲ detOf s) or s .sxx ⊲ leastSum32 or s .syy ⊲ leastSum32
+-- the spread test turned over, as the Rust has it
 
 turned : (a b c : Bool) → not (a and not b and not c) ≡ not a or b or c
 unfolding _and_ _or_
@@ -76,15 +75,6 @@ measured wide before = 3
 abbrev numberBy : Bool → Bool → Bool → Bool → Bool → ℕ → ℕ
 numberBy long on f s n m = if long then 4 else if on then (if f then 6 else if s then (if n then m else 17) else 16) else 5
 
--- which of the three a number says
-pub record Said : Type 0 where
-  pub few : Bool
-  pub line : Bool
-  pub steep : Bool
-
-abbrev pub said : ℕ → Said
-said n = record { few = n =? 6; line = n =? 16; steep = n =? 17 }
-
 measured-tells : (c : Cal) (ts : List Point) (ms before : Misses) → byMisses c ts ms before .number ≡ measured ms before
 measured-tells c ts (known ds) (known before) = refl
 measured-tells c ts (known ds) wide = refl
@@ -103,13 +93,14 @@ say false true false true true (known ds) (known d0) = refl
 say false true false true true (known ds) wide = refl
 say false true false true true wide before = refl
 
--- the Rust's `None` is one of the three, whichever
-joined : (asked f s n : Bool) → (asked and f) or (asked and not f and not s) or (asked and not f and s and not n) ≡ asked and (f or not s or not n)
-unfolding _and_ _or_
-joined false f s n = refl
-joined true true s n = refl
-joined true false false n = refl
-joined true false true n = refl
+-- the Rust's `None` is exactly one of the three
+counted : (a f s n : Bool) → howMany (record { few = a and f; line = a and not f and not s; steep = a and not f and s and not n }) ≡ (if a and (f or not s or not n) then 1 else 0)
+unfolding if_then_else_ _and_ _or_
+counted false f s n = refl
+counted true true s n = refl
+counted true false false n = refl
+counted true false true true = refl
+counted true false true false = refl
 
 -- only a coefficient out of reach is 17
 seventeen : {X : Type 0} (long on f s n : Bool) (ms before : Misses) → numberBy long on f s n (measured ms before) ≡ 17
@@ -127,14 +118,6 @@ seventeen false true false true true wide before e go = absurd (omega arith)
 module _ (ps : List Pair) (ts : List Point) where
   abbrev long : Bool
   long = longest <? length ps or longest <? length ts
-
-  -- neither LONG nor TARGET
-  abbrev pub asked : Bool
-  asked = not long and allOnPanel ts
-
-  -- the Rust says `None`: `n < 3`, the spread test, one of the six `q16(..)?`
-  abbrev pub rustNone : Bool
-  rustNone = few ps or rustLine (momentsOf ps .sums) or not (near ps)
 
   abbrev taps : Misses
   taps = missesOf (nearestCal (deltas ps)) ps
@@ -156,15 +139,16 @@ module _ (ps : List Pair) (ts : List Point) where
 
   -- each of the three exactly where its test is the first to fail
   pub why-exactly : said (toldFit (fitOf ps ts) .number)
-      ≡ record { few = asked and few ps; line = asked and not (few ps) and not (spread ps); steep = asked and not (few ps) and spread ps and not (near ps) }
+      ≡ record { few = asked ps ts and few ps; line = asked ps ts and not (few ps) and not (spread ps); steep = asked ps ts and not (few ps) and spread ps and not (near ps) }
   why-exactly = rw fit-number (say long (allOnPanel ts) (few ps) (spread ps) (near ps) taps (missesOf identity ps))
 
-  -- one of the three exactly where the Rust says `None`
-  pub none-exactly : (let w = said (toldFit (fitOf ps ts) .number) in w .few or w .line or w .steep) ≡ (asked and rustNone)
+  -- "Where the Rust says `None`, exactly one of these is said", and nowhere else is any
+  pub none-exactly : howMany (said (toldFit (fitOf ps ts) .number)) ≡ (if asked ps ts and rustNone ps then 1 else 0)
   none-exactly =
-      ap (λ (w : Said). w .few or w .line or w .steep) why-exactly
-      ∙ joined asked (few ps) (spread ps) (near ps)
-      ∙ ap (λ (b : Bool). asked and (few ps or b or not (near ps))) (line-is (momentsOf ps .sums))
+      ap howMany why-exactly
+      ∙ counted (asked ps ts) (few ps) (spread ps) (near ps)
+      ∙ ap (λ (b : Bool). if asked ps ts and (few ps or b) then 1 else 0)
+      (ap (λ (l : Bool). l or not (near ps)) (line-is (momentsOf ps .sums)) ∙ ap (λ (n : Bool). rustLine (momentsOf ps .sums) or n) (sym (steep-is (deltas ps))))
 
   -- STEEP always carries a place, that of the first coefficient out of reach
   pub steep-told : toldFit (fitOf ps ts) .number ≡ 17 → (fitOf ps ts ≡ Steep (first ps)) × First (first ps .0) (inOrder (deltas ps))

@@ -7,4 +7,5 @@ pub mod Scpi
 pub mod Moments
 pub mod Solutions
 pub mod Fits
+pub mod Nones
 pub mod Held
