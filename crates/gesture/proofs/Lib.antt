@@ -6,3 +6,4 @@ mod Rule
 mod Facts
 mod Steps
 mod Table
+mod CallLaw

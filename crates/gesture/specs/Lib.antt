@@ -11,3 +11,4 @@ pub mod Answers
 pub mod Parts
 pub mod Codes
 pub mod Calls
+pub mod Runs
