@@ -6,7 +6,6 @@ use crate::held::Calls;
 use gesture::Answer;
 use gesture::Line;
 use gesture::Log;
-use gesture::MultiEnd;
 use gesture::Touch;
 use gesture::Tracker;
 use panel::Event;
@@ -93,15 +92,10 @@ pub(crate) fn reports(c: Calls, calls: u64) -> u64 {
 // taken into their loops.
 fn touched(ev: Event, now: u64) -> Tracker {
     let p = ev.p;
-    Tracker {
-        touch: Touch::Down(p, now),
-        one: fingers::reset(p),
-        multi_end: MultiEnd::Never,
-        keys: 0,
-        keys_want: 0,
-        raw_next: false,
-        grab_ms: 0,
-    }
+    let mut t = gesture::fresh();
+    t.touch = Touch::Down(p, now);
+    t.one = fingers::reset(p);
+    t
 }
 
 // So many ticks, while the finger of the first report is down.

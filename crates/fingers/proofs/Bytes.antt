@@ -6,7 +6,7 @@ use Prim.Native.Nat.{ℕ, zero, suc, _<_, _/_, _%_, _^_}
 use native.Mathlib.Nat.{eq-or-lt-of-le, le-of-suc-le-suc, not-suc-le-zero}
 use lib.Dec.{T, ltb, eqb, ltb→lt, eqb→eq}
 use lib.Count.{trailingZeros}
-use Rattle.fingers.specs.Sizes.{keyCount}
+use Rattle.fingers.specs.Keys.{keyCount}
 use Rattle.fingers.specs.Keys.{lowest}
 
 abbrev pub both : Bool → Bool → Bool

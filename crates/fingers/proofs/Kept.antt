@@ -15,69 +15,79 @@ use Rattle.panel.specs.declared.axes.AxisLock.{AxisLock}
 use Rattle.panel.specs.declared.axes.AxisLock.the-variants.{Free, On}
 use Rattle.panel.proofs.Follow.{if-all}
 use Rattle.panel.proofs.Laws.{on-panel-x, on-panel-y, difference-at-most, distance-on-panel}
-use Rattle.fingers.specs.Fields.{reset, setGrabbed, setLongSent, setAxis, setCaptured, setDirect}
+use Rattle.fingers.specs.Fields.{reset, setGrabbed, setLongSent, setAxis, untaken, setCaptured, setDirect}
 use Rattle.fingers.specs.Holds.{heldStill}
 use Rattle.fingers.specs.OneFinger.{tracked, dragAlong, axisAt, moving, grabOrMoving, laterReport}
 use Rattle.fingers.specs.Pairs.{noPinch, spanAlong, pairAxis, newPair, stateNext, pairAt, pairNext, notPinch}
 use Rattle.fingers.specs.Several.{multiFrom, multiGrown, multiSeen, pinchOrSeen, twoFingers, pinchEndOrSeen, threeFingers}
 use Rattle.fingers.specs.declared.one.One.{One}
+use Rattle.fingers.specs.declared.one.App.{App}
 use Rattle.fingers.specs.declared.one.OneStep.{OneStep}
 use Rattle.fingers.specs.declared.pair.Pair.{Pair}
 use Rattle.fingers.specs.declared.pair.Pairing.{Pairing}
 use Rattle.fingers.specs.declared.pair.Pairing.the-variants.{Unpaired, Paired}
+use Rattle.fingers.specs.declared.settings.Settings.{Settings}
 use Rattle.fingers.specs.declared.several.Multi.{Multi}
 use Rattle.fingers.specs.declared.several.MultiStep.{MultiStep}
 
--- One finger: its last point on the panel, far less than the panel is wide, raw only if captured.
+-- One finger: its last point on the panel, far less than the panel is wide.
 
 abbrev pub FineOne : One → Type 0
-FineOne o = (onPanel (o .last) ≡ true) × (o .far < width) × (_or_ (not (o .raw)) (o .captured) ≡ true)
+FineOne o = (onPanel (o .last) ≡ true) × (o .far < width)
 
 abbrev FineStep : OneStep → Type 0
 FineStep s = FineOne (s .one)
 
 pub reset-fine : (p : Point) → onPanel p ≡ true → FineOne (reset p)
-unfolding reset tests._or_
-reset-fine p h = (h, omega arith, refl)
-
-pub captured-fine : (o : One) (raw : Bool) → FineOne o → FineOne (setCaptured o raw)
-unfolding setCaptured tests._or_
-captured-fine o true h = (h .0, h .1, refl)
-captured-fine o false h = (h .0, h .1, refl)
-
-or-right : (a : Bool) → _or_ a true ≡ true
-unfolding tests._or_
-or-right true = refl
-or-right false = refl
-
-pub direct-fine : (o : One) → FineOne o → FineOne (setDirect o)
-unfolding setDirect
-direct-fine o h = (h .0, h .1, or-right (not (o .raw)))
+unfolding reset
+reset-fine p h = (h, omega arith)
 
 tracked-fine : (o : One) (hold away : ℕ) (p : Point) → FineOne o → onPanel p ≡ true → away < width → FineOne (tracked o hold away p)
 unfolding tracked
-tracked-fine o hold away p h on near = let f = h .1 in (on, omega arith, h .2)
+tracked-fine o hold away p h on near = let f = h .1 in (on, omega arith)
 
 drag-fine : (a : AxisLock) (o : One) (start p : Point) → FineOne o → FineStep (dragAlong a o start p)
 unfolding dragAlong setAxis
 drag-fine (On a) o start p h = h
 drag-fine Free o start p h = h
 
-moving-fine : (o : One) (hold : ℕ) (prev start p : Point) → FineOne o → FineStep (moving o hold prev start p)
+moving-fine : (o : One) (raw : Bool) (hold : ℕ) (prev start p : Point) → FineOne o → FineStep (moving o raw hold prev start p)
 unfolding moving
-moving-fine o hold prev start p h = if-all FineStep _ h (if-all FineStep _ (drag-fine (axisAt (o .axis) start p) o start p h) h)
+moving-fine o raw hold prev start p h = if-all FineStep _ h (if-all FineStep _ (drag-fine (axisAt (o .axis) start p) o start p h) h)
 
-grab-fine : (o : One) (hold held : ℕ) (prev start p : Point) → FineOne o → FineStep (grabOrMoving o hold held prev start p)
+grab-fine : (o : One) (raw : Bool) (hold held : ℕ) (prev start p : Point) → FineOne o → FineStep (grabOrMoving o raw hold held prev start p)
 unfolding grabOrMoving setGrabbed
-grab-fine o hold held prev start p h = if-all FineStep _ h (moving-fine o hold prev start p h)
+grab-fine o raw hold held prev start p h = if-all FineStep _ h (moving-fine o raw hold prev start p h)
 
-pub later-fine : (o : One) (start : Point) (since : ℕ) (p : Point) (now grab : ℕ) → FineOne o → onPanel start ≡ true → onPanel p ≡ true → FineStep (laterReport o start since p now grab)
+pub later-fine : (o : One) (app : App) (start : Point) (since : ℕ) (p : Point) (now : ℕ) (set : Settings) → FineOne o → onPanel start ≡ true → onPanel p ≡ true → FineStep (laterReport o app start since p now set)
 unfolding laterReport
-later-fine o start since p now grab h s q = grab-fine _ _ _ _ _ _ (tracked-fine o _ _ p h q (distance-on-panel start p s q))
+later-fine o app start since p now set h s q = grab-fine _ _ _ _ _ _ _ (tracked-fine o _ _ p h q (distance-on-panel start p s q))
 
-pub still-fine : (o : One) (start : Point) (since now grab : ℕ) → FineOne o → FineStep (heldStill o start since now grab)
+pub still-fine : (o : One) (app : App) (start : Point) (since now : ℕ) (set : Settings) → FineOne o → FineStep (heldStill o app start since now set)
 unfolding heldStill setGrabbed setLongSent
-still-fine o start since now grab h = if-all FineStep _ h (if-all FineStep _ h h)
+still-fine o app start since now set h = if-all FineStep _ h (if-all FineStep _ h h)
+
+-- What the app made of the touch: raw only if captured.
+
+abbrev pub FineApp : App → Type 0
+FineApp a = _or_ (not (a .raw)) (a .captured) ≡ true
+
+pub untaken-fine : FineApp untaken
+unfolding untaken tests._or_
+untaken-fine = refl
+
+or-right : (a : Bool) → _or_ a true ≡ true
+unfolding tests._or_
+or-right true = refl
+or-right false = refl
+
+pub captured-fine : (a : App) (raw : Bool) → FineApp (setCaptured a raw)
+unfolding setCaptured
+captured-fine a raw = or-right (not raw)
+
+pub direct-fine : (a : App) → FineApp (setDirect a)
+unfolding setDirect
+direct-fine a = or-right (not (a .raw))
 
 -- The pair: fingers and centroid on the panel, span0 less than the panel is wide, state 0 to 2.
 

@@ -8,8 +8,7 @@ use borrow.Author.Tests.{eq-eqb, ne-eqb}
 use lib.Bits.{bitAnd, bitXor, differ, and-shr, xor-shr, and-step, xor-step}
 use lib.Dec.{eqb, eqb→eq}
 use Rattle.panel.specs.Tests.{if_then_else_}
-use Rattle.fingers.specs.Sizes.{keyCount, allKeys}
-use Rattle.fingers.specs.Keys.{without, flipped, keyStep}
+use Rattle.fingers.specs.Keys.{keyCount, allKeys, without, flipped, keyStep}
 use Rattle.fingers.specs.declared.keys.KeyStep.the-variants.{Same}
 use Rattle.fingers.proofs.Bytes.{every, below}
 

@@ -5,7 +5,7 @@ use Prim.Native.Nat.{ℕ, _-_}
 use Rattle.panel.specs.declared.points.Point.{Point}
 use Rattle.panel.proofs.Promises.{one-answer}
 use Rattle.fingers.specs.Keys.{keyStep}
-use Rattle.fingers.specs.Fields.{reset, setCaptured, setDirect}
+use Rattle.fingers.specs.Fields.{reset, untaken, setCaptured, setDirect}
 use Rattle.fingers.specs.Holds.{heldStill}
 use Rattle.fingers.specs.OneFinger.{laterReport}
 use Rattle.fingers.specs.Releases.{releaseOf}
@@ -14,9 +14,11 @@ use Rattle.fingers.specs.Several.{multiFrom, twoFingers, threeFingers, m
 use Rattle.fingers.specs.declared.gestures.Outcome.{Outcome}
 use Rattle.fingers.specs.declared.keys.KeyStep.{KeyStep}
 use Rattle.fingers.specs.declared.one.One.{One}
+use Rattle.fingers.specs.declared.one.App.{App}
 use Rattle.fingers.specs.declared.one.OneStep.{OneStep}
 use Rattle.fingers.specs.declared.pair.Pair.{Pair}
 use Rattle.fingers.specs.declared.pair.Pairing.{Pairing}
+use Rattle.fingers.specs.declared.settings.Settings.{Settings}
 use Rattle.fingers.specs.declared.several.Multi.{Multi}
 use Rattle.fingers.specs.declared.several.MultiStep.{MultiStep}
 
@@ -29,20 +31,23 @@ elapsed-unique now t = one-answer
 pub reset-unique : (p : Point) {r s : One} → r ≡ reset p → s ≡ reset p → r ≡ s
 reset-unique p = one-answer
 
-pub with-capture-unique : (o : One) (raw : Bool) {r s : One} → r ≡ setCaptured o raw → s ≡ setCaptured o raw → r ≡ s
-with-capture-unique o raw = one-answer
+pub untaken-unique : {r s : App} → r ≡ untaken → s ≡ untaken → r ≡ s
+untaken-unique = one-answer
 
-pub with-direct-unique : (o : One) {r s : One} → r ≡ setDirect o → s ≡ setDirect o → r ≡ s
-with-direct-unique o = one-answer
+pub with-capture-unique : (app : App) (raw : Bool) {r s : App} → r ≡ setCaptured app raw → s ≡ setCaptured app raw → r ≡ s
+with-capture-unique app raw = one-answer
 
-pub held-still-unique : (o : One) (start : Point) (since now grab : ℕ) {r s : OneStep} → r ≡ heldStill o start since now grab → s ≡ heldStill o start since now grab → r ≡ s
-held-still-unique o start since now grab = one-answer
+pub with-direct-unique : (app : App) {r s : App} → r ≡ setDirect app → s ≡ setDirect app → r ≡ s
+with-direct-unique app = one-answer
 
-pub later-report-unique : (o : One) (start : Point) (since : ℕ) (p : Point) (now grab : ℕ) {r s : OneStep} → r ≡ laterReport o start since p now grab → s ≡ laterReport o start since p now grab → r ≡ s
-later-report-unique o start since p now grab = one-answer
+pub held-still-unique : (o : One) (app : App) (start : Point) (since now : ℕ) (set : Settings) {r s : OneStep} → r ≡ heldStill o app start since now set → s ≡ heldStill o app start since now set → r ≡ s
+held-still-unique o app start since now set = one-answer
 
-pub release-unique : (o : One) (start : Point) (since now : ℕ) {r s : Outcome} → r ≡ releaseOf o start since now → s ≡ releaseOf o start since now → r ≡ s
-release-unique o start since now = one-answer
+pub later-report-unique : (o : One) (app : App) (start : Point) (since : ℕ) (p : Point) (now : ℕ) (set : Settings) {r s : OneStep} → r ≡ laterReport o app start since p now set → s ≡ laterReport o app start since p now set → r ≡ s
+later-report-unique o app start since p now set = one-answer
+
+pub release-unique : (o : One) (app : App) (start : Point) (since now : ℕ) {r s : Outcome} → r ≡ releaseOf o app start since now → s ≡ releaseOf o app start since now → r ≡ s
+release-unique o app start since now = one-answer
 
 pub new-pair-unique : (p q c : Point) {r s : Pair} → r ≡ newPair p q c → s ≡ newPair p q c → r ≡ s
 new-pair-unique p q c = one-answer

@@ -7,13 +7,15 @@ use Prim.Native.Nat.{ℕ, _-_}
 use mathlib.Core.Bool.{Bool, not}
 use Rattle.panel.specs.Tests.{if_then_else_, _and_, _≤?_, _=?_}
 use Rattle.panel.specs.declared.points.Point.{Point}
-use Rattle.fingers.specs.Sizes.{longTime, longHold}
+use Rattle.fingers.specs.Thresholds.{longTime, longHold}
 use Rattle.fingers.specs.Fields.{setGrabbed, setLongSent}
 use Rattle.fingers.specs.declared.gestures.Gesture.the-variants.{LongPress, Grab}
 use Rattle.fingers.specs.declared.gestures.Outcome.{Outcome}
 use Rattle.fingers.specs.declared.gestures.Outcome.the-variants.{Quiet, Gives}
 use Rattle.fingers.specs.declared.one.One.{One}
+use Rattle.fingers.specs.declared.one.App.{App}
 use Rattle.fingers.specs.declared.one.OneStep.{OneStep}
+use Rattle.fingers.specs.declared.settings.Settings.{Settings}
 
 abbrev pub step : Outcome → One → OneStep
 step out one = record { out = out; one = one }
@@ -36,8 +38,8 @@ unfoldable pub longDue : One → ℕ → ℕ → Bool
 longDue o grab held = not (o .moved) and not (o .«long_sent») and (longFrom grab ≤? held)
 
 -- a tick while one finger is down, since a time
-unfoldable pub heldStill : One → Point → ℕ → ℕ → ℕ → OneStep
-heldStill o start since now grab =
-    if grabDue o (holdOf (o .direct) grab) (now - since) then step (Gives (Grab start)) (setGrabbed o)
-    else if longDue o grab (now - since) then step (Gives (LongPress start)) (setLongSent o)
+unfoldable pub heldStill : One → App → Point → ℕ → ℕ → Settings → OneStep
+heldStill o app start since now set =
+    if grabDue o (holdOf (app .direct) (set .«grab_ms»)) (now - since) then step (Gives (Grab start)) (setGrabbed o)
+    else if longDue o (set .«grab_ms») (now - since) then step (Gives (LongPress start)) (setLongSent o)
     else step Quiet o

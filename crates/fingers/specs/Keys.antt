@@ -6,10 +6,16 @@ use Prim.Native.Nat.{ℕ, _-_, _^_}
 use lib.Bits.{bitAnd, bitXor}
 use lib.Count.{trailingZeros}
 use Rattle.panel.specs.Tests.{if_then_else_, _<?_}
-use Rattle.fingers.specs.Sizes.{keyCount, allKeys}
 use Rattle.fingers.specs.declared.keys.KeyStep.{KeyStep}
 use Rattle.fingers.specs.declared.keys.KeyStep.the-variants.{Same, Flipped}
 use Rattle.fingers.specs.declared.gestures.Gesture.the-variants.{KeyUp, KeyDown}
+
+-- "Keys: any of eight bits."
+abbrev pub keyCount : ℕ
+keyCount = 8
+
+abbrev pub allKeys : ℕ
+allKeys = 255
 
 -- the keys of one mask that are not in another
 unfoldable pub without : ℕ → ℕ → ℕ

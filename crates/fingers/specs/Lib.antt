@@ -1,5 +1,7 @@
 -- What a reader must believe about the fingers and keys, in document 01's order.
-pub mod Sizes
+pub mod Gestures
+pub mod Thresholds
+pub mod Notes
 pub mod Keys
 pub mod Fields
 pub mod Holds

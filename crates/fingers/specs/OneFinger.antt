@@ -12,14 +12,16 @@ use Rattle.panel.specs.Axes.{axisOf}
 use Rattle.panel.specs.declared.points.Point.{Point}
 use Rattle.panel.specs.declared.axes.AxisLock.{AxisLock}
 use Rattle.panel.specs.declared.axes.AxisLock.the-variants.{Free, On}
-use Rattle.fingers.specs.Sizes.{slop, grabSlop}
+use Rattle.fingers.specs.Thresholds.{slop, grabSlop}
 use Rattle.fingers.specs.Fields.{setGrabbed, setAxis}
 use Rattle.fingers.specs.Holds.{step, holdOf, isOn, grabDue}
 use Rattle.fingers.specs.declared.gestures.Gesture.the-variants.{Drag, Grab, Move}
 use Rattle.fingers.specs.declared.gestures.Outcome.{Outcome}
 use Rattle.fingers.specs.declared.gestures.Outcome.the-variants.{Quiet, Gives}
 use Rattle.fingers.specs.declared.one.One.{One}
+use Rattle.fingers.specs.declared.one.App.{App}
 use Rattle.fingers.specs.declared.one.OneStep.{OneStep}
+use Rattle.fingers.specs.declared.settings.Settings.{Settings}
 
 -- "early once over 8 with hold on, not direct, not grabbed": hold is 0, not on, for a direct touch
 unfoldable pub earlyNow : One → ℕ → ℕ → Bool
@@ -35,10 +37,7 @@ tracked o hold away p =
       «long_sent» = o .«long_sent»;
       axis = o .axis;
       grabbed = o .grabbed;
-      direct = o .direct;
       early = earlyNow o hold away;
-      captured = o .captured;
-      raw = o .raw;
     }
 
 unfoldable pub samePoint : Point → Point → Bool
@@ -60,18 +59,19 @@ dragAlong Free o start p = step Quiet o
 unfoldable pub mayDrag : One → ℕ → Bool
 mayDrag o hold = o .moved and (o .grabbed or (hold =? 0))
 
-unfoldable pub moving : One → ℕ → Point → Point → Point → OneStep
-moving o hold prev start p =
-    if o .raw then step (moveFrom prev p) o
+unfoldable pub moving : One → Bool → ℕ → Point → Point → Point → OneStep
+moving o raw hold prev start p =
+    if raw then step (moveFrom prev p) o
     else if mayDrag o hold then dragAlong (axisAt (o .axis) start p) o start p
     else step Quiet o
 
-unfoldable pub grabOrMoving : One → ℕ → ℕ → Point → Point → Point → OneStep
-grabOrMoving o hold held prev start p =
+unfoldable pub grabOrMoving : One → Bool → ℕ → ℕ → Point → Point → Point → OneStep
+grabOrMoving o raw hold held prev start p =
     if grabDue o hold held then step (Gives (Grab start)) (setGrabbed o)
-    else moving o hold prev start p
+    else moving o raw hold prev start p
 
 -- a report of one finger at p, down at start since a time
-unfoldable pub laterReport : One → Point → ℕ → Point → ℕ → ℕ → OneStep
-laterReport o start since p now grab =
-    grabOrMoving (tracked o (holdOf (o .direct) grab) (distance start p) p) (holdOf (o .direct) grab) (now - since) (o .last) start p
+unfoldable pub laterReport : One → App → Point → ℕ → Point → ℕ → Settings → OneStep
+laterReport o app start since p now set =
+    let hold = holdOf (app .direct) (set .«grab_ms») in
+    grabOrMoving (tracked o hold (distance start p) p) (app .raw) hold (now - since) (o .last) start p

@@ -10,7 +10,7 @@ use Rattle.panel.specs.Distances.{difference, distance2}
 use Rattle.panel.specs.declared.points.Point.{Point}
 use Rattle.panel.specs.declared.axes.Axis.{Axis}
 use Rattle.panel.specs.declared.axes.Axis.the-variants.{H, «V»}
-use Rattle.fingers.specs.Sizes.{pinchMin, pinchSwipe, spanLeast, spanMost}
+use Rattle.fingers.specs.Thresholds.{pinchMin, pinchSwipe, spanLeast, spanMost}
 use Rattle.fingers.specs.declared.gestures.Gesture.{Gesture}
 use Rattle.fingers.specs.declared.gestures.Gesture.the-variants.{Pinch}
 use Rattle.fingers.specs.declared.pair.Pair.{Pair}

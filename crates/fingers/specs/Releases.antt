@@ -8,11 +8,13 @@ use mathlib.Core.Bool.{Bool}
 use Rattle.panel.specs.Tests.{if_then_else_, _and_, _or_, _≤?_, _<?_}
 use Rattle.panel.specs.Distances.{difference}
 use Rattle.panel.specs.declared.points.Point.{Point}
-use Rattle.fingers.specs.Sizes.{tapSlop, swipeMax, swipeMin, noteLong, noteSlant, noteFar, noteFarMost}
+use Rattle.fingers.specs.Notes.{noteLong, noteSlant, noteFar, noteFarMost}
+use Rattle.fingers.specs.Thresholds.{tapSlop, swipeMax, swipeMin}
 use Rattle.fingers.specs.declared.gestures.Gesture.the-variants.{Tap, Up, SwipeLeft, SwipeRight, SwipeUp, SwipeDown}
 use Rattle.fingers.specs.declared.gestures.Outcome.{Outcome}
 use Rattle.fingers.specs.declared.gestures.Outcome.the-variants.{Noted, Gives}
 use Rattle.fingers.specs.declared.one.One.{One}
+use Rattle.fingers.specs.declared.one.App.{App}
 
 -- nothing, and a note for the log with a point
 abbrev pub noted : ℕ → Point → Outcome
@@ -31,13 +33,14 @@ swipeOrNote start p1 dx dy =
     else if 2 * dx <? dy then (if start .y <? p1 .y then Gives SwipeDown else Gives SwipeUp)
     else noted noteSlant p1
 
-unfoldable pub releaseBy : One → Point → ℕ → ℕ → ℕ → Outcome
-releaseBy o start held dx dy =
-    if o .captured then Gives (Up (o .last))
+unfoldable pub releaseBy : One → Bool → Point → ℕ → ℕ → ℕ → Outcome
+releaseBy o captured start held dx dy =
+    if captured then Gives (Up (o .last))
     else if o .«long_sent» then tapOrNote o start noteLong
     else if isSwipe held dx dy then swipeOrNote start (o .last) dx dy
     else tapOrNote o start (noteFar + min (o .far) noteFarMost)
 
 -- the finger is up that went down at start, at a time
-unfoldable pub releaseOf : One → Point → ℕ → ℕ → Outcome
-releaseOf o start since now = releaseBy o start (now - since) (difference (start .x) (o .last .x)) (difference (start .y) (o .last .y))
+unfoldable pub releaseOf : One → App → Point → ℕ → ℕ → Outcome
+releaseOf o app start since now =
+    releaseBy o (app .captured) start (now - since) (difference (start .x) (o .last .x)) (difference (start .y) (o .last .y))

@@ -12,7 +12,7 @@ use mathlib.Core.Bool.{Bool, true, false}
 use Rattle.panel.specs.Tests.{if_then_else_, _and_, _≤?_, _<?_, _=?_}
 use Rattle.panel.specs.Distances.{difference}
 use Rattle.panel.specs.declared.points.Point.{Point}
-use Rattle.fingers.specs.Sizes.{multiMin2, multiMin3, multiMax}
+use Rattle.fingers.specs.Thresholds.{multiMin2, multiMin3, multiMax}
 use Rattle.fingers.specs.Pairs.{pinching, newPair, pairNext, pinchOf, notPinch}
 use Rattle.fingers.specs.declared.gestures.Gesture.the-variants.{MultiSwipeDown, PinchEnd}
 use Rattle.fingers.specs.declared.gestures.Outcome.{Outcome}

@@ -6,10 +6,12 @@ ghost use Rattle.fingers.specs.Holds.{holdOf, grabDue, longFrom, longDue
 use crate::gestures::Gesture;
 use crate::gestures::Outcome;
 use crate::one;
+use crate::one::App;
 use crate::one::One;
 use crate::one::OneStep;
-use crate::sizes::LONG_HOLD_MS;
-use crate::sizes::LONG_MS;
+use crate::settings::Settings;
+use crate::thresholds::LONG_HOLD_MS;
+use crate::thresholds::LONG_MS;
 use panel::Point;
 
 // The time from t to now, 0 where the clock is behind.
@@ -61,17 +63,17 @@ fn long_due(o: One, grab: u16, held: u64) -> bool
 }
 
 // A tick while one finger is down at p0, since t0.
-pub fn held_still(o: One, p0: Point, t0: u64, now: u64, grab: u16) -> OneStep
-    ensures { λ r. ⌜ r ≡ heldStill o p0 t0 now grab ⌝ }
+pub fn held_still(o: One, app: App, p0: Point, t0: u64, now: u64, set: Settings) -> OneStep
+    ensures { λ r. ⌜ r ≡ heldStill o app p0 t0 now set ⌝ }
 {
     let held = elapsed(now, t0);
-    if grab_due(o, hold_of(o.direct, grab), held) {
+    if grab_due(o, hold_of(app.direct, set.grab_ms), held) {
         return OneStep {
             out: Outcome::Gives(Gesture::Grab(p0)),
             one: one::with_grab(o),
         };
     }
-    if long_due(o, grab, held) {
+    if long_due(o, set.grab_ms, held) {
         return OneStep {
             out: Outcome::Gives(Gesture::LongPress(p0)),
             one: one::with_long(o),

@@ -2,9 +2,17 @@
 // started. Taking the lowest changed bit whichever way it changed would tell a press as a release's key.
 ghost use mathlib.Core.Path.{_≡_};
 ghost use Prim.Native.Nat.{_<_};
-ghost use Rattle.fingers.specs.Sizes.{keyCount};
-ghost use Rattle.fingers.specs.Keys.{without, lowest, flipped, keyStep};
+ghost use Rattle.fingers.specs.Keys.{keyCount, without, lowest, flipped, keyStep};
 use crate::gestures::Gesture;
+
+// The side keys, a bit for each.
+pub struct Keys {
+    // As told by gestures so far ...
+    pub told: u8,
+    // ... and as the last report has them. They differ after a report that changed more than one key: the rest is told
+    // one key per call, releases first, at the next report or tick.
+    pub wanted: u8,
+}
 
 pub enum KeyStep {
     // What gestures told of is what is wanted.

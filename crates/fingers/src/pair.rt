@@ -4,10 +4,10 @@ ghost use mathlib.Core.Path.{_≡_};
 ghost use Prim.Native.Nat.{_-_};
 ghost use Rattle.fingers.specs.Pairs.{spanAlong, pairAxis, newPair, keepsOrder, stateNext, pairAt, pairNext, spanTold, pinchOf, notPinch};
 use crate::gestures::Gesture;
-use crate::sizes::PINCH_MIN;
-use crate::sizes::PINCH_SWIPE;
-use crate::sizes::SPAN_LEAST;
-use crate::sizes::SPAN_MOST;
+use crate::thresholds::PINCH_MIN;
+use crate::thresholds::PINCH_SWIPE;
+use crate::thresholds::SPAN_LEAST;
+use crate::thresholds::SPAN_MOST;
 use panel::Axis;
 use panel::Point;
 

@@ -2,20 +2,21 @@
 // for the log of why.
 ghost use mathlib.Core.Path.{_≡_};
 ghost use Prim.Native.Nat.{_+_, min};
-ghost use Rattle.fingers.specs.Sizes.{noteFar, noteFarMost};
+ghost use Rattle.fingers.specs.Notes.{noteFar, noteFarMost};
 ghost use Rattle.fingers.specs.Releases.{tapOrNote, isSwipe, swipeOrNote, releaseBy, releaseOf};
 use crate::gestures::Gesture;
 use crate::gestures::Note;
 use crate::gestures::Outcome;
 use crate::hold;
+use crate::notes::NOTE_FAR;
+use crate::notes::NOTE_FAR_MOST;
+use crate::notes::NOTE_LONG;
+use crate::notes::NOTE_SLANT;
+use crate::one::App;
 use crate::one::One;
-use crate::sizes::NOTE_FAR;
-use crate::sizes::NOTE_FAR_MOST;
-use crate::sizes::NOTE_LONG;
-use crate::sizes::NOTE_SLANT;
-use crate::sizes::SWIPE_MAX_MS;
-use crate::sizes::SWIPE_MIN;
-use crate::sizes::TAP_SLOP;
+use crate::thresholds::SWIPE_MAX_MS;
+use crate::thresholds::SWIPE_MIN;
+use crate::thresholds::TAP_SLOP;
 use panel::Point;
 
 fn tap_or(o: One, p0: Point, note: u8) -> Outcome
@@ -71,11 +72,11 @@ fn note_of(far: u16) -> u8
     NOTE_FAR + NOTE_FAR_MOST as u8
 }
 
-fn release_by(o: One, p0: Point, held: u64, dx: u16, dy: u16) -> Outcome
-    ensures { λ r. ⌜ r ≡ releaseBy o p0 held dx dy ⌝ }
+fn release_by(o: One, captured: bool, p0: Point, held: u64, dx: u16, dy: u16) -> Outcome
+    ensures { λ r. ⌜ r ≡ releaseBy o captured p0 held dx dy ⌝ }
 {
     let p1 = o.last;
-    if o.captured {
+    if captured {
         return Outcome::Gives(Gesture::Up(p1));
     }
     // A long press that the app did not take still taps where it did not go far, so that a slow press on a button is
@@ -90,11 +91,11 @@ fn release_by(o: One, p0: Point, held: u64, dx: u16, dy: u16) -> Outcome
 }
 
 // The finger is up that went down at p0, at t0.
-pub fn release(o: One, p0: Point, t0: u64, now: u64) -> Outcome
-    ensures { λ r. ⌜ r ≡ releaseOf o p0 t0 now ⌝ }
+pub fn release(o: One, app: App, p0: Point, t0: u64, now: u64) -> Outcome
+    ensures { λ r. ⌜ r ≡ releaseOf o app p0 t0 now ⌝ }
 {
     let p1 = o.last;
     let dx = panel::gap(p0.x, p1.x);
     let dy = panel::gap(p0.y, p1.y);
-    release_by(o, p0, hold::elapsed(now, t0), dx, dy)
+    release_by(o, app.captured, p0, hold::elapsed(now, t0), dx, dy)
 }

@@ -10,9 +10,9 @@ use crate::pair;
 use crate::pair::PINCHING;
 use crate::pair::Pair;
 use crate::pair::Pairing;
-use crate::sizes::MULTI_MAX_MS;
-use crate::sizes::MULTI_MIN_2;
-use crate::sizes::MULTI_MIN_3;
+use crate::thresholds::MULTI_MAX_MS;
+use crate::thresholds::MULTI_MIN_2;
+use crate::thresholds::MULTI_MIN_3;
 use panel::Point;
 
 pub struct Multi {

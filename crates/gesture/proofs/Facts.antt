@@ -1,4 +1,4 @@
--- The state rule as facts of the touch, of its fields and of the grab time, which the laws of the steps are about; and
+-- The state rule as facts of the touch, of its finger, of what the app made of it and of the grab time, which the laws of the steps are about; and
 -- back to the tests. Assumes nothing.
 use mathlib.Core.Path.{_≡_, refl, sym, _∙_}
 use mathlib.Core.Bool.{true}
@@ -6,12 +6,12 @@ use Prim.Native.Nat.{_≤_}
 use borrow.Author.Tests.{ltb-true, leb-true, lt-ltb, le-leb}
 use Rattle.panel.specs.Points.{onPanel}
 use Rattle.panel.proofs.Laws.{and-left, and-right}
-use Rattle.fingers.specs.Sizes.{grabMost}
+use Rattle.fingers.specs.Thresholds.{grabMost}
 use Rattle.fingers.specs.declared.one.One.{One}
 use Rattle.fingers.specs.declared.pair.Pairing.{Pairing}
 use Rattle.fingers.specs.declared.pair.Pairing.the-variants.{Unpaired, Paired}
-use Rattle.fingers.proofs.Kept.{FineOne, FinePairing, FineMulti}
-use Rattle.gesture.specs.Parts.{touchPart, severalPart, multiPart, multiPlaces, pairingPart, pairPart, pairPlaces, onePart, allParts}
+use Rattle.fingers.proofs.Kept.{FineOne, FineApp, FinePairing, FineMulti}
+use Rattle.gesture.specs.code.Parts.{touchPart, severalPart, multiPart, multiPlaces, pairingPart, pairPart, pairPlaces, onePart, allParts}
 use Rattle.gesture.specs.States.{stateRule, rawRule}
 use Rattle.gesture.specs.declared.record.Touch.{Touch}
 use Rattle.gesture.specs.declared.record.Touch.the-variants.{Idle, Down, Multi, Residual}
@@ -25,15 +25,15 @@ FineTouch (Multi m pair) = FineMulti m × FinePairing pair
 FineTouch Residual = Unit {0}
 
 abbrev pub Fine : Tracker → Type 0
-Fine t = FineTouch (t .touch) × FineOne (t .one) × (t .«grab_ms» ≤ grabMost)
+Fine t = FineTouch (t .touch) × FineOne (t .one) × FineApp (t .app) × (t .settings .«grab_ms» ≤ grabMost)
 
 one-facts : (o : One) → onePart o ≡ true → FineOne o
-unfolding onePart rawRule
-one-facts o h = (and-left _ _ h, ltb-true _ _ (and-left _ _ (and-right _ _ h)), and-right _ _ (and-right _ _ h))
+unfolding onePart
+one-facts o h = (and-left _ _ h, ltb-true _ _ (and-right _ _ h))
 
 one-tests : (o : One) → FineOne o → onePart o ≡ true
-unfolding onePart rawRule
-one-tests o h = both (h .0) (both (lt-ltb _ _ (h .1)) (h .2))
+unfolding onePart
+one-tests o h = both (h .0) (lt-ltb _ _ (h .1))
 
 pairing-facts : (pair : Pairing) → pairingPart pair ≡ true → FinePairing pair
 unfolding pairingPart pairPart pairPlaces
@@ -68,11 +68,12 @@ touch-tests (Multi m pair) h =
 touch-tests Residual h = refl
 
 pub facts : (t : Tracker) → stateRule t ≡ true → Fine t
-unfolding allParts
+unfolding allParts rawRule
 facts t h =
     let k = sym (rule-is-parts t) ∙ h in
-    (touch-facts (t .touch) (and-left _ _ k), one-facts (t .one) (and-left _ _ (and-right _ _ k)), leb-true _ _ (and-right _ _ (and-right _ _ k)))
+    let rest = and-right _ _ (and-right _ _ k) in
+    (touch-facts (t .touch) (and-left _ _ k), one-facts (t .one) (and-left _ _ (and-right _ _ k)), and-left _ _ rest, leb-true _ _ (and-right _ _ rest))
 
 pub kept : (t : Tracker) → Fine t → stateRule t ≡ true
-unfolding allParts
-kept t f = rule-is-parts t ∙ both (touch-tests (t .touch) (f .0)) (both (one-tests (t .one) (f .1)) (le-leb _ _ (f .2)))
+unfolding allParts rawRule
+kept t f = rule-is-parts t ∙ both (touch-tests (t .touch) (f .0)) (both (one-tests (t .one) (f .1)) (both (f .2) (le-leb _ _ (f .3))))

@@ -39,7 +39,7 @@ module _ (t : Tracker) where
   unfolding tickOf ticked answered refused
   tick-tells now = refl
 
-  pub capture-tells : captureOf t ≡ if_then_else_ (stateRule t) (if_then_else_ (takes t) (tells 0 Nothing (captureLine (t .«raw_next») (t .one .last)) (taken t)) (tells 0 Nothing Silent (wished t false))) (tells 1 Nothing Silent t)
+  pub capture-tells : captureOf t ≡ if_then_else_ (stateRule t) (if_then_else_ (takes t) (tells 0 Nothing (captureLine (t .settings .«raw_next») (t .one .last)) (taken t)) (tells 0 Nothing Silent (wished t false))) (tells 1 Nothing Silent t)
   unfolding captureOf captured answered refused
   capture-tells = refl
 
@@ -55,7 +55,7 @@ module _ (t : Tracker) where
   unfolding setGrabOf answered refused
   set-grab-tells ms = refl
 
-  pub grab-tells : grabOf t ≡ if_then_else_ (stateRule t) (record { ms = t .«grab_ms»; answer = tells 0 Nothing Silent t }) (record { ms = 0; answer = tells 1 Nothing Silent t })
+  pub grab-tells : grabOf t ≡ if_then_else_ (stateRule t) (record { ms = t .settings .«grab_ms»; answer = tells 0 Nothing Silent t }) (record { ms = 0; answer = tells 1 Nothing Silent t })
   unfolding grabOf answered refused
   grab-tells = refl
 

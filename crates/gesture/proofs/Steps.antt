@@ -15,8 +15,8 @@ use Rattle.fingers.specs.declared.keys.KeyStep.{KeyStep}
 use Rattle.fingers.specs.declared.keys.KeyStep.the-variants.{Same, Flipped}
 use Rattle.fingers.specs.declared.gestures.Outcome.{Outcome}
 use Rattle.fingers.specs.declared.several.MultiStep.{MultiStep}
-use Rattle.fingers.proofs.Kept.{FinePairing, FineMulti, FineMultiStep, reset-fine, later-fine, still-fine, new-fine, from-fine, two-fine, three-fine}
-use Rattle.gesture.specs.Trackers.{origin, setTouch, setKeys}
+use Rattle.fingers.proofs.Kept.{FinePairing, FineMulti, FineMultiStep, reset-fine, untaken-fine, later-fine, still-fine, new-fine, from-fine, two-fine, three-fine}
+use Rattle.gesture.specs.Trackers.{origin, whole, touched, keyed}
 use Rattle.gesture.specs.Reports.{finger, allUp, residualTouch, newTouch, touchDown, goesOn, oneFinger, twoStart, two, twoOf, moreStart, more, moreOf, several, fingersOf, keysThenFingers, reportStep}
 use Rattle.gesture.specs.Ticks.{stillDown, keysThenHold, tickStep}
 use Rattle.gesture.specs.Answers.{pointsInUse}
@@ -37,23 +37,23 @@ FineAfter s = Fine (s .tracker)
 -- A report.
 
 up-fine : (t : Tracker) (now : ℕ) → Fine t → FineAfter (allUp t now)
-unfolding allUp setTouch
-up-fine t now f = (tt, f .1, f .2)
+unfolding allUp touched whole
+up-fine t now f = (tt, f .1, f .2, f .3)
 
 down-fine : (t : Tracker) (p : Point) (now : ℕ) → Fine t → onPanel p ≡ true → FineAfter (touchDown t p now)
-unfolding touchDown residualTouch newTouch setTouch
-down-fine t p now f on = if-all FineAfter _ (tt, f .1, f .2) (on, reset-fine p on, f .2)
+unfolding touchDown residualTouch newTouch touched whole
+down-fine t p now f on = if-all FineAfter _ (tt, f .1, f .2, f .3) (on, reset-fine p on, untaken-fine, f .3)
 
 one-fine : (x : Touch) (t : Tracker) (p : Point) (now : ℕ) → FineTouch x → Fine t → onPanel p ≡ true → FineAfter (oneFinger x t p now)
-unfolding oneFinger goesOn setTouch
+unfolding oneFinger goesOn touched whole
 one-fine Idle t p now d f on = down-fine t p now f on
 one-fine Residual t p now d f on = f
 one-fine (Multi m pair) t p now d f on = f
-one-fine (Down start since) t p now d f on = (d, later-fine (t .one) start since p now (t .«grab_ms») (f .1) d on, f .2)
+one-fine (Down start since) t p now d f on = (d, later-fine (t .one) (t .app) start since p now (t .settings) (f .1) d on, f .2, f .3)
 
 several-fine : (s : MultiStep) (t : Tracker) → FineMulti (s .multi) × FinePairing (s .pair) → Fine t → FineAfter (several s t)
-unfolding several setTouch
-several-fine s t h f = (h, f .1, f .2)
+unfolding several touched whole
+several-fine s t h f = (h, f .1, f .2, f .3)
 
 module _ (p q c : Point) (now : ℕ) (hp : onPanel p ≡ true) (hq : onPanel q ≡ true) (hc : onPanel c ≡ true) where
   two-start-fine : (out : Outcome) → FineMultiStep (twoStart out p q c now)
@@ -124,7 +124,7 @@ fingers-fine t ev now f h =
     more-of-fine t (fingers (ev .points)) (ev .pts) now f (r .0) (r .1) (ap (λ (k : ℕ). allOnPanel (take k (ev .pts))) (fingers-twice (ev .points)) ∙ use-several ev n1 h))))
 
 keys-fine : (k : KeyStep) (t : Tracker) (ev : Event) (now : ℕ) → Fine t → allOnPanel (pointsInUse ev) ≡ true → FineAfter (keysThenFingers k t ev now)
-unfolding keysThenFingers setKeys
+unfolding keysThenFingers keyed whole
 keys-fine (Flipped g keys) t ev now f h = f
 keys-fine Same t ev now f h = fingers-fine _ ev now f h
 
@@ -135,14 +135,14 @@ report-fine t ev now f h = keys-fine _ t ev now f h
 -- A tick.
 
 still-down-fine : (x : Touch) (t : Tracker) (now : ℕ) → FineTouch x → Fine t → FineAfter (stillDown x t now)
-unfolding stillDown goesOn setTouch
+unfolding stillDown goesOn touched whole
 still-down-fine Idle t now d f = f
 still-down-fine Residual t now d f = f
 still-down-fine (Multi m pair) t now d f = f
-still-down-fine (Down start since) t now d f = (d, still-fine (t .one) start since now (t .«grab_ms») (f .1), f .2)
+still-down-fine (Down start since) t now d f = (d, still-fine (t .one) (t .app) start since now (t .settings) (f .1), f .2, f .3)
 
 hold-fine : (k : KeyStep) (t : Tracker) (now : ℕ) → Fine t → FineAfter (keysThenHold k t now)
-unfolding keysThenHold setKeys
+unfolding keysThenHold keyed whole
 hold-fine (Flipped g keys) t now f = f
 hold-fine Same t now f = still-down-fine (t .touch) t now (f .0) f
 

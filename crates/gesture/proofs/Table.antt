@@ -1,4 +1,5 @@
--- The log's table of specs/Lines.antt, by gesture, is the one of specs/Codes.antt, by code number. Assumes nothing.
+-- The log's table of specs/Lines.antt, by a gesture's place and numbers, leads to the lines of specs/code/Codes.antt, by its
+-- code number, its small number and its point. Assumes nothing.
 use mathlib.Core.Path.{_≡_, refl}
 use mathlib.Core.Bool.{Bool}
 use Prim.Native.Nat.{ℕ}
@@ -6,11 +7,12 @@ use Rattle.panel.specs.Tests as tests
 use Rattle.panel.specs.Tests.{_and_, _=?_}
 use Rattle.fingers.specs.declared.gestures.Gesture.{Gesture}
 use Rattle.fingers.specs.declared.gestures.Gesture.the-variants.{Down, Tap, LongPress, Drag, Grab, Up, SwipeLeft, SwipeRight, SwipeUp, SwipeDown, Cancel, MultiSwipeDown, KeyDown, KeyUp, Move, Pinch, PinchEnd}
-use Rattle.gesture.specs.Lines.{gestureLine, isDrag}
-use Rattle.gesture.specs.Codes.{codedAs, codeOf, lineByCode, isLaterDrag}
+use Rattle.fingers.specs.Gestures.{isDrag}
+use Rattle.gesture.specs.Lines.{lineAt, gestureLine}
+use Rattle.gesture.specs.code.Codes.{codedAs, codeOf, lineByCode, isLaterDrag}
 
 pub line-by-code : (g : Gesture) (now : ℕ) → gestureLine g now ≡ lineByCode (codeOf g .code) (codeOf g .number) (codeOf g .p) now
-unfolding tests.if_then_else_ gestureLine codedAs codeOf lineByCode
+unfolding tests.if_then_else_ lineAt gestureLine codedAs codeOf lineByCode
 line-by-code (Down p) now = refl
 line-by-code (Tap p) now = refl
 line-by-code (LongPress p) now = refl
@@ -30,7 +32,7 @@ line-by-code (Pinch a span0 span) now = refl
 line-by-code (PinchEnd released) now = refl
 
 drag-by-code : (g : Gesture) → isDrag g ≡ (codeOf g .code =? 3)
-unfolding isDrag codedAs codeOf
+unfolding codedAs codeOf
 drag-by-code (Down p) = refl
 drag-by-code (Tap p) = refl
 drag-by-code (LongPress p) = refl

@@ -65,7 +65,7 @@ tickOf t now = if stateRule t then ticked (tickStep t now) now else refused Stat
 
 unfoldable pub captured : Tracker → Answer
 captured t =
-    if takes t then answered Nothing (captureLine (t .«raw_next») (t .one .last)) (taken t)
+    if takes t then answered Nothing (captureLine (t .settings .«raw_next») (t .one .last)) (taken t)
     else answered Nothing Silent (wished t false)
 
 unfoldable pub captureOf : Tracker → Answer
@@ -84,5 +84,5 @@ setGrabOf t ms = if stateRule t then answered Nothing Silent (afterSetGrab t ms)
 
 unfoldable pub grabOf : Tracker → GrabAnswer
 grabOf t =
-    if stateRule t then record { ms = t .«grab_ms»; answer = answered Nothing Silent t }
+    if stateRule t then record { ms = t .settings .«grab_ms»; answer = answered Nothing Silent t }
     else record { ms = 0; answer = refused State t }

@@ -5,25 +5,43 @@
 use Prim.Native.Nat.{ℕ, min}
 use mathlib.Core.Bool.{Bool, false, not}
 use Rattle.panel.specs.Tests.{if_then_else_, _and_}
-use Rattle.fingers.specs.Sizes.{grabMost}
+use Rattle.fingers.specs.Thresholds.{grabMost}
 use Rattle.fingers.specs.Fields.{setCaptured, setDirect}
-use Rattle.gesture.specs.Trackers.{isActive, setOne, setGrab}
+use Rattle.fingers.specs.declared.one.App.{App}
+use Rattle.fingers.specs.declared.settings.Settings.{Settings}
+use Rattle.gesture.specs.Trackers.{whole, isActive}
 use Rattle.gesture.specs.declared.record.Tracker.{Tracker}
+
+-- One setting, the others as they are.
+
+unfoldable pub setRaw : Settings → Bool → Settings
+setRaw set on = record { «grab_ms» = set .«grab_ms»; «raw_next» = on }
+
+unfoldable pub setGrab : Settings → ℕ → Settings
+setGrab set ms = record { «grab_ms» = ms; «raw_next» = set .«raw_next» }
+
+-- the touch is the app's, and the wish is cleared
+unfoldable pub owned : Tracker → App → Tracker
+owned t app = whole (setRaw (t .settings) false) (t .keys) (t .touch) (t .one) app (t .«multi_end»)
+
+-- the settings alone
+unfoldable pub settled : Tracker → Settings → Tracker
+settled t set = whole set (t .keys) (t .touch) (t .one) (t .app) (t .«multi_end»)
 
 -- whether a `capture` takes the touch
 unfoldable pub takes : Tracker → Bool
-takes t = isActive (t .touch) and not (t .one .captured)
+takes t = isActive (t .touch) and not (t .app .captured)
 
--- the touch is captured, raw as wished, and the wish is cleared
+-- the touch is captured, raw as wished
 unfoldable pub taken : Tracker → Tracker
-taken t = setOne t (setCaptured (t .one) (t .«raw_next»)) false
+taken t = owned t (setCaptured (t .app) (t .settings .«raw_next»))
 
 -- the raw wish alone
 unfoldable pub wished : Tracker → Bool → Tracker
-wished t on = setOne t (t .one) on
+wished t on = settled t (setRaw (t .settings) on)
 
 unfoldable pub afterCaptureDirect : Tracker → Tracker
-afterCaptureDirect t = if isActive (t .touch) then setOne t (setDirect (t .one)) false else wished t false
+afterCaptureDirect t = if isActive (t .touch) then owned t (setDirect (t .app)) else wished t false
 
 unfoldable pub afterSetGrab : Tracker → ℕ → Tracker
-afterSetGrab t ms = setGrab t (min ms grabMost)
+afterSetGrab t ms = settled t (setGrab (t .settings) (min ms grabMost))

@@ -1,4 +1,4 @@
--- The letters of the log, by their ASCII numbers, and the code number by which a Drag is known.
+-- The letters of the log, by their ASCII numbers.
 use Prim.Native.Nat.{ℕ}
 
 abbrev pub ascii-D : ℕ
@@ -51,6 +51,3 @@ ascii-N = 78
 
 abbrev pub ascii-c : ℕ
 ascii-c = 99
-
-abbrev pub drag : ℕ
-drag = 3

@@ -7,14 +7,12 @@
 -- `capture` that takes: c, argument raw, time 0, last point."
 use Prim.Native.Nat.{ℕ}
 use mathlib.Core.Bool.{Bool, true, false}
-use Rattle.panel.specs.Tests.{if_then_else_, _and_}
+use Rattle.panel.specs.Tests.{if_then_else_, _and_, _=?_, bit}
 use Rattle.panel.specs.declared.points.Point.{Point}
-use Rattle.panel.specs.declared.axes.Axis.{Axis}
-use Rattle.panel.specs.declared.axes.Axis.the-variants.{H, «V»}
 use Rattle.panel.specs.declared.axes.AxisLock.{AxisLock}
 use Rattle.panel.specs.declared.axes.AxisLock.the-variants.{Free, On}
+use Rattle.fingers.specs.Gestures.{placeOf, fieldAt, isDrag}
 use Rattle.fingers.specs.declared.gestures.Gesture.{Gesture}
-use Rattle.fingers.specs.declared.gestures.Gesture.the-variants.{Down, Tap, LongPress, Drag, Grab, Up, SwipeLeft, SwipeRight, SwipeUp, SwipeDown, Cancel, MultiSwipeDown, KeyDown, KeyUp, Move, Pinch, PinchEnd}
 use Rattle.fingers.specs.declared.gestures.Note.{Note}
 use Rattle.fingers.specs.declared.gestures.Outcome.{Outcome}
 use Rattle.fingers.specs.declared.gestures.Outcome.the-variants.{Quiet, Noted, Gives}
@@ -26,56 +24,40 @@ use Rattle.gesture.specs.declared.lines.Log.the-variants.{Silent, Logged
 abbrev pub line : ℕ → ℕ → Point → ℕ → Log
 line letter argument p now = Logged (record { letter = letter; argument = argument; p = p; time = now })
 
-unfoldable pub axisNumber : Axis → ℕ
-axisNumber H = 0
-axisNumber «V» = 1
+abbrev at : ℕ → ℕ → Point
+at x y = record { x = x; y = y }
 
-unfoldable pub bit : Bool → ℕ
-bit true = 1
-bit false = 0
+-- by the gesture's place in the table of gestures and its numbers a to e; Move and Pinch are not logged
+unfoldable pub lineAt : ℕ → ℕ → ℕ → ℕ → ℕ → ℕ → ℕ → Log
+lineAt place a b c d e now =
+    -- Down, Tap, LongPress
+    if place =? 0 then line ascii-D 0 (at a b) now
+    else if place =? 1 then line ascii-T 0 (at a b) now
+    else if place =? 2 then line ascii-L 0 (at a b) now
+    -- Drag, Grab, Up
+    else if place =? 3 then line ascii-M e (at c d) now
+    else if place =? 4 then line ascii-G 0 (at a b) now
+    else if place =? 5 then line ascii-U 0 (at a b) now
+    -- the swipes left, right, up, down
+    else if place =? 6 then line ascii-less 0 origin now
+    else if place =? 7 then line ascii-greater 0 origin now
+    else if place =? 8 then line ascii-caret 0 origin now
+    else if place =? 9 then line ascii-v 0 origin now
+    -- Cancel, MultiSwipeDown, KeyDown, KeyUp
+    else if place =? 10 then line ascii-C 0 origin now
+    else if place =? 11 then line ascii-W a origin now
+    else if place =? 12 then line ascii-K a origin now
+    else if place =? 13 then line ascii-k a origin now
+    -- PinchEnd
+    else if place =? 16 then line ascii-E a origin now
+    else Silent
 
--- the table; Move and Pinch are not logged
 unfoldable pub gestureLine : Gesture → ℕ → Log
-gestureLine (Down p) now = line ascii-D 0 p now
-gestureLine (Tap p) now = line ascii-T 0 p now
-gestureLine (LongPress p) now = line ascii-L 0 p now
-gestureLine (Drag start p a) now = line ascii-M (axisNumber a) p now
-gestureLine (Grab p) now = line ascii-G 0 p now
-gestureLine (Up p) now = line ascii-U 0 p now
-gestureLine SwipeLeft now = line ascii-less 0 origin now
-gestureLine SwipeRight now = line ascii-greater 0 origin now
-gestureLine SwipeUp now = line ascii-caret 0 origin now
-gestureLine SwipeDown now = line ascii-v 0 origin now
-gestureLine Cancel now = line ascii-C 0 origin now
-gestureLine (MultiSwipeDown n) now = line ascii-W n origin now
-gestureLine (KeyDown key) now = line ascii-K key origin now
-gestureLine (KeyUp key) now = line ascii-k key origin now
-gestureLine (Move prev p) now = Silent
-gestureLine (Pinch a span0 span) now = Silent
-gestureLine (PinchEnd released) now = line ascii-E (bit released) origin now
+gestureLine g now = lineAt (placeOf g) (fieldAt 0 g) (fieldAt 1 g) (fieldAt 2 g) (fieldAt 3 g) (fieldAt 4 g) now
 
 unfoldable pub isLocked : AxisLock → Bool
 isLocked Free = false
 isLocked (On a) = true
-
-unfoldable pub isDrag : Gesture → Bool
-isDrag (Down p) = false
-isDrag (Tap p) = false
-isDrag (LongPress p) = false
-isDrag (Drag start p a) = true
-isDrag (Grab p) = false
-isDrag (Up p) = false
-isDrag SwipeLeft = false
-isDrag SwipeRight = false
-isDrag SwipeUp = false
-isDrag SwipeDown = false
-isDrag Cancel = false
-isDrag (MultiSwipeDown n) = false
-isDrag (KeyDown key) = false
-isDrag (KeyUp key) = false
-isDrag (Move prev p) = false
-isDrag (Pinch a span0 span) = false
-isDrag (PinchEnd released) = false
 
 -- "a Drag only if no axis was locked before": locked is whether one was before the call
 unfoldable pub reportGestureLine : Gesture → Bool → ℕ → Log

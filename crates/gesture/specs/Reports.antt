@@ -19,9 +19,10 @@ use Rattle.panel.specs.Points.{firstPoints, fingers}
 use Rattle.panel.specs.Centroids.{middle}
 use Rattle.panel.specs.declared.points.Point.{Point}
 use Rattle.panel.specs.declared.points.Event.{Event}
-use Rattle.fingers.specs.Sizes.{liftGap, noteResidual}
+use Rattle.fingers.specs.Thresholds.{liftGap}
+use Rattle.fingers.specs.Notes.{noteResidual}
 use Rattle.fingers.specs.Keys.{keyStep}
-use Rattle.fingers.specs.Fields.{reset}
+use Rattle.fingers.specs.Fields.{reset, untaken}
 use Rattle.fingers.specs.OneFinger.{laterReport}
 use Rattle.fingers.specs.Releases.{noted, releaseOf}
 use Rattle.fingers.specs.Pairs.{newPair}
@@ -33,10 +34,11 @@ use Rattle.fingers.specs.declared.gestures.Outcome.the-variants.{Quiet, Gives}
 use Rattle.fingers.specs.declared.keys.KeyStep.{KeyStep}
 use Rattle.fingers.specs.declared.keys.KeyStep.the-variants.{Same, Flipped}
 use Rattle.fingers.specs.declared.one.One.{One}
+use Rattle.fingers.specs.declared.one.App.{App}
 use Rattle.fingers.specs.declared.one.OneStep.{OneStep}
 use Rattle.fingers.specs.declared.pair.Pairing.the-variants.{Unpaired, Paired}
 use Rattle.fingers.specs.declared.several.MultiStep.{MultiStep}
-use Rattle.gesture.specs.Trackers.{step, origin, setTouch, setKeys}
+use Rattle.gesture.specs.Trackers.{step, origin, keysAt, touched, keyed}
 use Rattle.gesture.specs.declared.record.Touch.{Touch}
 use Rattle.gesture.specs.declared.record.Touch.the-variants.{Idle, Down, Multi, Residual}
 use Rattle.gesture.specs.declared.record.MultiEnd.{MultiEnd}
@@ -46,11 +48,11 @@ use Rattle.gesture.specs.declared.record.Step.{Step}
 
 -- Count 0: the touch is over, whatever it was.
 
-unfoldable pub upOutcome : Touch → One → ℕ → Outcome
-upOutcome Idle one now = Quiet
-upOutcome Residual one now = Quiet
-upOutcome (Multi m pair) one now = multiEnd m pair
-upOutcome (Down start since) one now = releaseOf one start since now
+unfoldable pub upOutcome : Touch → One → App → ℕ → Outcome
+upOutcome Idle one app now = Quiet
+upOutcome Residual one app now = Quiet
+upOutcome (Multi m pair) one app now = multiEnd m pair
+upOutcome (Down start since) one app now = releaseOf one app start since now
 
 unfoldable pub endStored : Touch → MultiEnd → ℕ → MultiEnd
 endStored Idle end now = end
@@ -59,7 +61,8 @@ endStored (Multi m pair) end now = At now
 endStored (Down start since) end now = end
 
 unfoldable pub allUp : Tracker → ℕ → Step
-allUp t now = step (upOutcome (t .touch) (t .one) now) (setTouch t Idle (t .one) (endStored (t .touch) (t .«multi_end») now))
+allUp t now =
+    step (upOutcome (t .touch) (t .one) (t .app) now) (touched t Idle (t .one) (t .app) (endStored (t .touch) (t .«multi_end») now))
 
 -- Count 1.
 
@@ -69,23 +72,23 @@ isLastFinger Never now = false
 isLastFinger (At end) now = now - end <? liftGap
 
 unfoldable pub residualTouch : Tracker → Point → Step
-residualTouch t p = step (noted noteResidual p) (setTouch t Residual (t .one) Never)
+residualTouch t p = step (noted noteResidual p) (touched t Residual (t .one) (t .app) Never)
 
 unfoldable pub newTouch : Tracker → Point → ℕ → Step
-newTouch t p now = step (Gives (gesture.Down p)) (setTouch t (Down p now) (reset p) Never)
+newTouch t p now = step (Gives (gesture.Down p)) (touched t (Down p now) (reset p) untaken Never)
 
 unfoldable pub touchDown : Tracker → Point → ℕ → Step
 touchDown t p now = if isLastFinger (t .«multi_end») now then residualTouch t p else newTouch t p now
 
 -- a one-finger touch goes on
 unfoldable pub goesOn : OneStep → Touch → Tracker → Step
-goesOn s touch t = step (s .out) (setTouch t touch (s .one) (t .«multi_end»))
+goesOn s touch t = step (s .out) (touched t touch (s .one) (t .app) (t .«multi_end»))
 
 unfoldable pub oneFinger : Touch → Tracker → Point → ℕ → Step
 oneFinger Idle t p now = touchDown t p now
 oneFinger Residual t p now = step Quiet t
 oneFinger (Multi m pair) t p now = step Quiet t
-oneFinger (Down start since) t p now = goesOn (laterReport (t .one) start since p now (t .«grab_ms»)) (Down start since) t
+oneFinger (Down start since) t p now = goesOn (laterReport (t .one) (t .app) start since p now (t .settings)) (Down start since) t
 
 -- Two or more: the touch is one of several from here on. p and q are the first two of the points, c is the centroid.
 
@@ -108,7 +111,7 @@ more (Down start since) n c now = moreStart (Gives Cancel) n c now
 more (Multi m pair) n c now = threeFingers pair m n c now
 
 unfoldable pub several : MultiStep → Tracker → Step
-several s t = step (s .out) (setTouch t (Multi (s .multi) (s .pair)) (t .one) (t .«multi_end»))
+several s t = step (s .out) (touched t (Multi (s .multi) (s .pair)) (t .one) (t .app) (t .«multi_end»))
 
 -- The fingers, by their count.
 
@@ -130,10 +133,10 @@ fingersOf t ev now =
 
 -- The report.
 
--- "the call ends, fingers unread"
+-- "Store its mask as wanted." "that bit flips and the call ends, fingers unread"
 unfoldable pub keysThenFingers : KeyStep → Tracker → Event → ℕ → Step
-keysThenFingers (Flipped g keys) t ev now = step (Gives g) (setKeys t keys (ev .keys))
-keysThenFingers Same t ev now = fingersOf (setKeys t (t .keys) (ev .keys)) ev now
+keysThenFingers (Flipped g told) t ev now = step (Gives g) (keyed t (keysAt told (ev .keys)))
+keysThenFingers Same t ev now = fingersOf (keyed t (keysAt (t .keys .told) (ev .keys))) ev now
 
 unfoldable pub reportStep : Tracker → Event → ℕ → Step
-reportStep t ev now = keysThenFingers (keyStep (t .keys) (ev .keys)) t ev now
+reportStep t ev now = keysThenFingers (keyStep (t .keys .told) (ev .keys)) t ev now

@@ -11,9 +11,9 @@ use Rattle.panel.specs.Tests.{_and_, _or_, _≤?_, _<?_}
 use Rattle.panel.specs.Sizes.{width, maxPoints}
 use Rattle.panel.specs.Points.{allOnPanel}
 use Rattle.panel.specs.declared.points.Point.{Point}
-use Rattle.fingers.specs.Sizes.{grabMost, fewest}
+use Rattle.fingers.specs.Thresholds.{grabMost, fewest}
 use Rattle.fingers.specs.Pairs.{noPinch}
-use Rattle.fingers.specs.declared.one.One.{One}
+use Rattle.fingers.specs.declared.one.App.{App}
 use Rattle.fingers.specs.declared.pair.Pairing.the-variants.{Unpaired, Paired}
 use Rattle.gesture.specs.declared.record.Touch.{Touch}
 use Rattle.gesture.specs.declared.record.Touch.the-variants.{Idle, Down, Multi, Residual}
@@ -58,8 +58,8 @@ mostRule (Multi m pair) = (fewest ≤? m .n) and (m .n ≤? maxPoints)
 mostRule Residual = true
 
 -- "raw needs captured"
-unfoldable pub rawRule : One → Bool
-rawRule o = not (o .raw) or o .captured
+unfoldable pub rawRule : App → Bool
+rawRule app = not (app .raw) or app .captured
 
 unfoldable pub stateRule : Tracker → Bool
 stateRule t =
@@ -67,5 +67,5 @@ stateRule t =
     and (t .one .far <? width) and spanRule (t .touch)
     and pairRule (t .touch)
     and mostRule (t .touch)
-    and (t .«grab_ms» ≤? grabMost)
-    and rawRule (t .one)
+    and (t .settings .«grab_ms» ≤? grabMost)
+    and rawRule (t .app)

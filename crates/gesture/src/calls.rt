@@ -82,7 +82,8 @@ fn capture_answer(t: Tracker) -> Answer
     if captures::is_takeable(t) {
         let one = t.one;
         let last = one.last;
-        let log = lines::capture_line(t.raw_next, last);
+        let set = t.settings;
+        let log = lines::capture_line(set.raw_next, last);
         return answers::answered(Given::Nothing, log, captures::with_taken(t));
     }
     answers::answered(Given::Nothing, Log::Silent, captures::with_wish(t, false))
@@ -137,8 +138,9 @@ pub fn grab_ms(t: Tracker) -> GrabAnswer
     ensures { λ r. ⌜ r ≡ grabOf t ⌝ }
 {
     if states::state_ok(t) {
+        let set = t.settings;
         return GrabAnswer {
-            ms: t.grab_ms,
+            ms: set.grab_ms,
             answer: answers::answered(Given::Nothing, Log::Silent, t),
         };
     }

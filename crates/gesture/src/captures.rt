@@ -2,37 +2,76 @@
 // is taken is no swipe and no tap.
 ghost use mathlib.Core.Path.{_≡_};
 ghost use Prim.Native.Nat.{min};
-ghost use Rattle.fingers.specs.Sizes.{grabMost};
-ghost use Rattle.gesture.specs.Captures.{takes, taken, wished, afterCaptureDirect, afterSetGrab};
+ghost use Rattle.fingers.specs.Thresholds.{grabMost};
+ghost use Rattle.gesture.specs.Captures.{setRaw, setGrab, takes, owned, settled, taken, wished, afterCaptureDirect, afterSetGrab};
 use crate::record;
 use crate::record::Tracker;
+use fingers::App;
 use fingers::GRAB_MOST_MS;
+use fingers::Settings;
+
+fn with_raw(set: Settings, on: bool) -> Settings
+    ensures { λ r. ⌜ r ≡ setRaw set on ⌝ }
+{
+    let mut n = set;
+    n.raw_next = on;
+    n
+}
+
+fn with_grab_ms(set: Settings, ms: u16) -> Settings
+    ensures { λ r. ⌜ r ≡ setGrab set ms ⌝ }
+{
+    let mut n = set;
+    n.grab_ms = ms;
+    n
+}
 
 // Whether a capture takes the touch: one is on, and not taken yet.
 pub(crate) fn is_takeable(t: Tracker) -> bool
     ensures { λ r. ⌜ r ≡ takes t ⌝ }
 {
     let touch = t.touch;
-    let one = t.one;
+    let app = t.app;
     if record::is_active(touch) {
-        return !one.captured;
+        return !app.captured;
     }
     false
+}
+
+// The touch is the app's, and the raw wish is used up.
+fn with_app(t: Tracker, app: App) -> Tracker
+    ensures { λ r. ⌜ r ≡ owned t app ⌝ }
+{
+    let set = t.settings;
+    let mut n = t;
+    n.app = app;
+    n.settings = with_raw(set, false);
+    n
+}
+
+// The settings alone.
+fn with_settings(t: Tracker, set: Settings) -> Tracker
+    ensures { λ r. ⌜ r ≡ settled t set ⌝ }
+{
+    let mut n = t;
+    n.settings = set;
+    n
 }
 
 // The touch is the app's, for raw moves if they were wished for.
 pub(crate) fn with_taken(t: Tracker) -> Tracker
     ensures { λ r. ⌜ r ≡ taken t ⌝ }
 {
-    let one = t.one;
-    record::with_one(t, fingers::with_capture(one, t.raw_next), false)
+    let app = t.app;
+    let set = t.settings;
+    with_app(t, fingers::with_capture(app, set.raw_next))
 }
 
 pub(crate) fn with_wish(t: Tracker, on: bool) -> Tracker
     ensures { λ r. ⌜ r ≡ wished t on ⌝ }
 {
-    let one = t.one;
-    record::with_one(t, one, on)
+    let set = t.settings;
+    with_settings(t, with_raw(set, on))
 }
 
 pub(crate) fn after_capture_direct(t: Tracker) -> Tracker
@@ -40,8 +79,8 @@ pub(crate) fn after_capture_direct(t: Tracker) -> Tracker
 {
     let touch = t.touch;
     if record::is_active(touch) {
-        let one = t.one;
-        return record::with_one(t, fingers::with_direct(one), false);
+        let app = t.app;
+        return with_app(t, fingers::with_direct(app));
     }
     with_wish(t, false)
 }
@@ -55,5 +94,6 @@ fn at_most(ms: u16) -> u16
 pub(crate) fn after_set_grab(t: Tracker, ms: u16) -> Tracker
     ensures { λ r. ⌜ r ≡ afterSetGrab t ms ⌝ }
 {
-    record::with_grab_ms(t, at_most(ms))
+    let set = t.settings;
+    with_settings(t, with_grab_ms(set, at_most(ms)))
 }

@@ -2,13 +2,12 @@
 // gestures' code numbers; or a note of why a touch came to nothing.
 ghost use mathlib.Core.Path.{_≡_};
 ghost use Rattle.gesture.specs.Lines as rule;
-ghost use Rattle.gesture.specs.Lines.{axisNumber, isLocked, gestureLine, reportGestureLine, noteLine, reportLine, tickLine, captureLine};
-ghost use Rattle.gesture.specs.Codes.{codedAs, codeOf, lineByCode, isLaterDrag};
+ghost use Rattle.gesture.specs.Lines.{isLocked, gestureLine, reportGestureLine, noteLine, reportLine, tickLine, captureLine};
+ghost use Rattle.gesture.specs.code.Codes.{codedAs, codeOf, lineByCode, isLaterDrag};
 use fingers::Gesture;
 use fingers::Note;
 use fingers::One;
 use fingers::Outcome;
-use panel::Axis;
 use panel::AxisLock;
 use panel::Point;
 
@@ -45,21 +44,6 @@ fn logged(letter: u8, argument: u8, p: Point, now: u64) -> Log
     })
 }
 
-fn axis_number(a: Axis) -> u8
-    ensures { λ r. ⌜ r ≡ axisNumber a ⌝ }
-{
-    match a {
-        Axis::H => 0,
-        Axis::V => 1,
-    }
-}
-
-fn bit(b: bool) -> u8
-    ensures { λ r. ⌜ r ≡ rule.bit b ⌝ }
-{
-    if b { 1 } else { 0 }
-}
-
 fn coded_as(code: u8, number: u8, p: Point) -> Coded
     ensures { λ r. ⌜ r ≡ codedAs code number p ⌝ }
 {
@@ -75,7 +59,7 @@ fn code_of(g: Gesture) -> Coded
         Gesture::Down(p) => coded_as(0, 0, p),
         Gesture::Tap(p) => coded_as(1, 0, p),
         Gesture::LongPress(p) => coded_as(2, 0, p),
-        Gesture::Drag(_, p, a) => coded_as(DRAG, axis_number(a), p),
+        Gesture::Drag(_, p, a) => coded_as(DRAG, panel::axis_number(a), p),
         Gesture::Grab(p) => coded_as(4, 0, p),
         Gesture::Up(p) => coded_as(5, 0, p),
         Gesture::SwipeLeft => coded_as(6, 0, z),
@@ -87,8 +71,8 @@ fn code_of(g: Gesture) -> Coded
         Gesture::KeyDown(key) => coded_as(12, key, z),
         Gesture::KeyUp(key) => coded_as(13, key, z),
         Gesture::Move(_, p) => coded_as(14, 0, p),
-        Gesture::Pinch(a, _, _) => coded_as(15, axis_number(a), z),
-        Gesture::PinchEnd(released) => coded_as(16, bit(released), z),
+        Gesture::Pinch(a, _, _) => coded_as(15, panel::axis_number(a), z),
+        Gesture::PinchEnd(released) => coded_as(16, panel::bit(released), z),
     }
 }
 
@@ -187,5 +171,5 @@ pub(crate) fn tick_line(out: Outcome, now: u64) -> Log
 pub(crate) fn capture_line(raw: bool, last: Point) -> Log
     ensures { λ r. ⌜ r ≡ captureLine raw last ⌝ }
 {
-    logged(b'c', bit(raw), last, 0)
+    logged(b'c', panel::bit(raw), last, 0)
 }

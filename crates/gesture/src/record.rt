@@ -1,12 +1,16 @@
-// The tracker record. The touch that is on is an enum, so that there are never two; the fields of one finger
-// stand beside it because they outlive a touch.
+// The tracker record, by what changes together: the settings, the keys, the touch that is on, what its one finger did, what
+// the app made of it, and when several fingers were last up. The touch is an enum, so that there are never two; the
+// finger's part and the app's stand beside it because they outlive a touch.
 ghost use mathlib.Core.Path.{_≡_};
 ghost use Rattle.fingers.specs.declared.gestures.Outcome.the-variants.{Quiet};
-ghost use Rattle.gesture.specs.Trackers.{step, freshTracker, isActive, setTouch, setKeys, setOne, setGrab};
+ghost use Rattle.gesture.specs.Trackers.{freshTracker, isActive, step, touched, keyed};
+use fingers::App;
+use fingers::Keys;
 use fingers::Multi;
 use fingers::One;
 use fingers::Outcome;
 use fingers::Pairing;
+use fingers::Settings;
 use panel::Point;
 
 pub enum Touch {
@@ -28,31 +32,16 @@ pub enum MultiEnd {
 pub struct Tracker {
     pub touch: Touch,
     pub one: One,
+    pub app: App,
     pub multi_end: MultiEnd,
-    // Side keys as told by gestures so far, a bit for each ...
-    pub keys: u8,
-    // ... and as the last report has them. They differ after a report that changed more than one key: the
-    // rest is told one key per call, releases first, at the next report or tick.
-    pub keys_want: u8,
-    // A capture that takes the touch makes it a raw-move touch. Every capture uses the wish up.
-    pub raw_next: bool,
-    // Hold-to-grab time, 0 for direct drags.
-    pub grab_ms: u16,
+    pub keys: Keys,
+    pub settings: Settings,
 }
 
+// What a call comes to, and the tracker that it leaves.
 pub struct Step {
     pub out: Outcome,
     pub tracker: Tracker,
-}
-
-// Nothing came of the call, and nothing is altered.
-pub(crate) fn quiet(t: Tracker) -> Step
-    ensures { λ r. ⌜ r ≡ step Quiet t ⌝ }
-{
-    Step {
-        out: Outcome::Quiet,
-        tracker: t,
-    }
 }
 
 pub fn fresh() -> Tracker
@@ -61,11 +50,13 @@ pub fn fresh() -> Tracker
     Tracker {
         touch: Touch::Idle,
         one: fingers::reset(Point { x: 0, y: 0 }),
+        app: fingers::untaken(),
         multi_end: MultiEnd::Never,
-        keys: 0,
-        keys_want: 0,
-        grab_ms: 0,
-        raw_next: false,
+        keys: Keys { told: 0, wanted: 0 },
+        settings: Settings {
+            grab_ms: 0,
+            raw_next: false,
+        },
     }
 }
 
@@ -81,42 +72,36 @@ pub(crate) fn is_active(touch: Touch) -> bool
     }
 }
 
-pub(crate) fn with_touch(t: Tracker, touch: Touch, one: One, end: MultiEnd) -> Tracker
-    ensures { λ r. ⌜ r ≡ setTouch t touch one end ⌝ }
+// Nothing came of the call, and nothing is altered.
+pub(crate) fn quiet(t: Tracker) -> Step
+    ensures { λ r. ⌜ r ≡ step Quiet t ⌝ }
 {
-    Tracker {
-        touch,
-        one,
-        multi_end: end,
-        keys: t.keys,
-        keys_want: t.keys_want,
-        grab_ms: t.grab_ms,
-        raw_next: t.raw_next,
+    Step {
+        out: Outcome::Quiet,
+        tracker: t,
     }
 }
 
-pub(crate) fn with_keys(t: Tracker, keys: u8, want: u8) -> Tracker
-    ensures { λ r. ⌜ r ≡ setKeys t keys want ⌝ }
+// With what the fingers left: the touch, what its one finger did, what the app made of it, and the stored end of several.
+pub(crate) fn with_touch(t: Tracker, touch: Touch, one: One, app: App, end: MultiEnd) -> Tracker
+    ensures { λ r. ⌜ r ≡ touched t touch one app end ⌝ }
+{
+    let keys = t.keys;
+    let settings = t.settings;
+    Tracker {
+        touch,
+        one,
+        app,
+        multi_end: end,
+        keys,
+        settings,
+    }
+}
+
+pub(crate) fn with_keys(t: Tracker, keys: Keys) -> Tracker
+    ensures { λ r. ⌜ r ≡ keyed t keys ⌝ }
 {
     let mut n = t;
     n.keys = keys;
-    n.keys_want = want;
-    n
-}
-
-pub(crate) fn with_one(t: Tracker, one: One, wish: bool) -> Tracker
-    ensures { λ r. ⌜ r ≡ setOne t one wish ⌝ }
-{
-    let mut n = t;
-    n.one = one;
-    n.raw_next = wish;
-    n
-}
-
-pub(crate) fn with_grab_ms(t: Tracker, ms: u16) -> Tracker
-    ensures { λ r. ⌜ r ≡ setGrab t ms ⌝ }
-{
-    let mut n = t;
-    n.grab_ms = ms;
     n
 }

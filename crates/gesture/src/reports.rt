@@ -9,8 +9,10 @@ use crate::record::MultiEnd;
 use crate::record::Step;
 use crate::record::Touch;
 use crate::record::Tracker;
+use fingers::App;
 use fingers::Gesture;
 use fingers::KeyStep;
+use fingers::Keys;
 use fingers::LIFT_GAP_MS;
 use fingers::MultiStep;
 use fingers::NOTE_RESIDUAL;
@@ -24,14 +26,14 @@ use panel::MAX_POINTS;
 use panel::Point;
 
 // What the end of a touch comes to.
-fn up_outcome(touch: Touch, one: One, now: u64) -> Outcome
-    ensures { λ r. ⌜ r ≡ upOutcome touch one now ⌝ }
+fn up_outcome(touch: Touch, one: One, app: App, now: u64) -> Outcome
+    ensures { λ r. ⌜ r ≡ upOutcome touch one app now ⌝ }
 {
     match touch {
         Touch::Idle => Outcome::Quiet,
         Touch::Residual => Outcome::Quiet,
         Touch::Multi(m, pr) => fingers::multi_end(m, pr),
-        Touch::Down(p0, t0) => fingers::release(one, p0, t0, now),
+        Touch::Down(p0, t0) => fingers::release(one, app, p0, t0, now),
     }
 }
 
@@ -52,10 +54,11 @@ fn all_up(t: Tracker, now: u64) -> Step
 {
     let touch = t.touch;
     let one = t.one;
+    let app = t.app;
     let end = t.multi_end;
     Step {
-        out: up_outcome(touch, one, now),
-        tracker: record::with_touch(t, Touch::Idle, one, end_stored(touch, end, now)),
+        out: up_outcome(touch, one, app, now),
+        tracker: record::with_touch(t, Touch::Idle, one, app, end_stored(touch, end, now)),
     }
 }
 
@@ -74,12 +77,13 @@ fn residual(t: Tracker, p: Point) -> Step
     ensures { λ r. ⌜ r ≡ residualTouch t p ⌝ }
 {
     let one = t.one;
+    let app = t.app;
     Step {
         out: Outcome::Noted(Note {
             number: NOTE_RESIDUAL,
             p,
         }),
-        tracker: record::with_touch(t, Touch::Residual, one, MultiEnd::Never),
+        tracker: record::with_touch(t, Touch::Residual, one, app, MultiEnd::Never),
     }
 }
 
@@ -88,7 +92,13 @@ fn down(t: Tracker, p: Point, now: u64) -> Step
 {
     Step {
         out: Outcome::Gives(Gesture::Down(p)),
-        tracker: record::with_touch(t, Touch::Down(p, now), fingers::reset(p), MultiEnd::Never),
+        tracker: record::with_touch(
+            t,
+            Touch::Down(p, now),
+            fingers::reset(p),
+            fingers::untaken(),
+            MultiEnd::Never,
+        ),
     }
 }
 
@@ -107,10 +117,11 @@ pub(crate) fn goes_on(s: OneStep, touch: Touch, t: Tracker) -> Step
 {
     let out = s.out;
     let one = s.one;
+    let app = t.app;
     let end = t.multi_end;
     Step {
         out,
-        tracker: record::with_touch(t, touch, one, end),
+        tracker: record::with_touch(t, touch, one, app, end),
     }
 }
 
@@ -124,7 +135,9 @@ fn one_finger(touch: Touch, t: Tracker, p: Point, now: u64) -> Step
         Touch::Multi(_, _) => record::quiet(t),
         Touch::Down(p0, t0) => {
             let one = t.one;
-            let s = fingers::later_report(one, p0, t0, p, now, t.grab_ms);
+            let app = t.app;
+            let set = t.settings;
+            let s = fingers::later_report(one, app, p0, t0, p, now, set);
             goes_on(s, Touch::Down(p0, t0), t)
         }
     }
@@ -182,10 +195,11 @@ fn several(s: MultiStep, t: Tracker) -> Step
     let m = s.multi;
     let pr = s.pair;
     let one = t.one;
+    let app = t.app;
     let end = t.multi_end;
     Step {
         out,
-        tracker: record::with_touch(t, Touch::Multi(m, pr), one, end),
+        tracker: record::with_touch(t, Touch::Multi(m, pr), one, app, end),
     }
 }
 
@@ -225,12 +239,17 @@ fn by_count(t: Tracker, ev: Event, now: u64) -> Step
 fn keys_then_fingers(k: KeyStep, t: Tracker, ev: Event, now: u64) -> Step
     ensures { λ r. ⌜ r ≡ keysThenFingers k t ev now ⌝ }
 {
+    let keys = t.keys;
+    let wanted = ev.keys;
     match k {
-        KeyStep::Flipped(g, keys) => Step {
+        KeyStep::Flipped(g, told) => Step {
             out: Outcome::Gives(g),
-            tracker: record::with_keys(t, keys, ev.keys),
+            tracker: record::with_keys(t, Keys { told, wanted }),
         },
-        KeyStep::Same => by_count(record::with_keys(t, t.keys, ev.keys), ev, now),
+        KeyStep::Same => {
+            let told = keys.told;
+            by_count(record::with_keys(t, Keys { told, wanted }), ev, now)
+        }
     }
 }
 
@@ -238,5 +257,6 @@ fn keys_then_fingers(k: KeyStep, t: Tracker, ev: Event, now: u64) -> Step
 pub(crate) fn report_step(t: Tracker, ev: Event, now: u64) -> Step
     ensures { λ r. ⌜ r ≡ reportStep t ev now ⌝ }
 {
-    keys_then_fingers(fingers::key_step(t.keys, ev.keys), t, ev, now)
+    let keys = t.keys;
+    keys_then_fingers(fingers::key_step(keys.told, ev.keys), t, ev, now)
 }

@@ -1,31 +1,31 @@
 // The state rule of the tracker, tested part by part. What the types rule out by themselves (two touches at a
 // time, a pair without several fingers) needs no test.
 ghost use mathlib.Core.Path.{_≡_};
-ghost use Rattle.gesture.specs.Parts.{onePart, pairPlaces, pairPart, pairingPart, multiPlaces, multiPart, severalPart, touchPart, allParts};
+ghost use Rattle.gesture.specs.code.Parts.{onePart, pairPlaces, pairPart, pairingPart, multiPlaces, multiPart, severalPart, touchPart, allParts};
 ghost use Rattle.gesture.specs.States.{rawRule, stateRule};
 use crate::record::Touch;
 use crate::record::Tracker;
+use fingers::App;
 use fingers::GRAB_MOST_MS;
 use fingers::Multi;
 use fingers::One;
 use fingers::Pair;
 use fingers::Pairing;
+use panel::MAX_POINTS;
 use panel::WIDTH;
 
 // The largest pair state.
 const STATE_MOST: u8 = 2;
 
-// The fewest and the most fingers of a touch of several.
+// The fewest fingers of a touch of several.
 const FINGERS_LEAST: u8 = 2;
 
-const FINGERS_MOST: u8 = 5;
-
 // A raw-move touch is the app's.
-fn raw_ok(o: One) -> bool
-    ensures { λ r. ⌜ r ≡ rawRule o ⌝ }
+fn app_ok(app: App) -> bool
+    ensures { λ r. ⌜ r ≡ rawRule app ⌝ }
 {
-    if o.raw {
-        return o.captured;
+    if app.raw {
+        return app.captured;
     }
     true
 }
@@ -34,7 +34,7 @@ fn one_ok(o: One) -> bool
     ensures { λ r. ⌜ r ≡ onePart o ⌝ }
 {
     let last = o.last;
-    panel::on_panel(last) & (o.far < WIDTH) & raw_ok(o)
+    panel::on_panel(last) & (o.far < WIDTH)
 }
 
 fn places_ok(r: Pair) -> bool
@@ -72,7 +72,7 @@ fn centroids_ok(m: Multi) -> bool
 fn multi_ok(m: Multi) -> bool
     ensures { λ r. ⌜ r ≡ multiPart m ⌝ }
 {
-    (FINGERS_LEAST <= m.n) & (m.n <= FINGERS_MOST) & centroids_ok(m)
+    (FINGERS_LEAST <= m.n) & (m.n <= MAX_POINTS as u8) & centroids_ok(m)
 }
 
 fn several_ok(m: Multi, pr: Pairing) -> bool
@@ -100,9 +100,14 @@ fn parts_ok(t: Tracker) -> bool
 {
     let touch = t.touch;
     let one = t.one;
+    let app = t.app;
+    let set = t.settings;
     if touch_ok(touch) {
         if one_ok(one) {
-            return t.grab_ms <= GRAB_MOST_MS;
+            if app_ok(app) {
+                return set.grab_ms <= GRAB_MOST_MS;
+            }
+            return false;
         }
         return false;
     }

@@ -7,6 +7,7 @@ use crate::record::Touch;
 use crate::record::Tracker;
 use crate::reports;
 use fingers::KeyStep;
+use fingers::Keys;
 use fingers::Outcome;
 
 fn still_down(touch: Touch, t: Tracker, now: u64) -> Step
@@ -18,7 +19,9 @@ fn still_down(touch: Touch, t: Tracker, now: u64) -> Step
         Touch::Multi(_, _) => record::quiet(t),
         Touch::Down(p0, t0) => {
             let one = t.one;
-            let s = fingers::held_still(one, p0, t0, now, t.grab_ms);
+            let app = t.app;
+            let set = t.settings;
+            let s = fingers::held_still(one, app, p0, t0, now, set);
             reports::goes_on(s, Touch::Down(p0, t0), t)
         }
     }
@@ -28,11 +31,15 @@ fn keys_then_hold(k: KeyStep, t: Tracker, now: u64) -> Step
     ensures { λ r. ⌜ r ≡ keysThenHold k t now ⌝ }
 {
     let touch = t.touch;
+    let keys = t.keys;
     match k {
-        KeyStep::Flipped(g, keys) => Step {
-            out: Outcome::Gives(g),
-            tracker: record::with_keys(t, keys, t.keys_want),
-        },
+        KeyStep::Flipped(g, told) => {
+            let wanted = keys.wanted;
+            Step {
+                out: Outcome::Gives(g),
+                tracker: record::with_keys(t, Keys { told, wanted }),
+            }
+        }
         KeyStep::Same => still_down(touch, t, now),
     }
 }
@@ -41,5 +48,6 @@ fn keys_then_hold(k: KeyStep, t: Tracker, now: u64) -> Step
 pub(crate) fn tick_step(t: Tracker, now: u64) -> Step
     ensures { λ r. ⌜ r ≡ tickStep t now ⌝ }
 {
-    keys_then_hold(fingers::key_step(t.keys, t.keys_want), t, now)
+    let keys = t.keys;
+    keys_then_hold(fingers::key_step(keys.told, keys.wanted), t, now)
 }

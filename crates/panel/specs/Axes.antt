@@ -7,6 +7,7 @@ use lib.IntN.{ℤ, natAbs}
 use Rattle.panel.specs.Refusals.{Told, answered, refused}
 use Rattle.panel.specs.Sizes.{lockMax, lockWide}
 use Rattle.panel.specs.Tests.{if_then_else_, _and_, _≤?_, _<?_}
+use Rattle.panel.specs.declared.axes.Axis.{Axis}
 use Rattle.panel.specs.declared.axes.Axis.the-variants.{H, «V»}
 use Rattle.panel.specs.declared.axes.AxisLock.{AxisLock}
 use Rattle.panel.specs.declared.axes.AxisLock.the-variants.{Free, On}
@@ -30,3 +31,8 @@ lockOf dx dy =
 abbrev pub toldLock : LockAnswer → Told AxisLock
 toldLock (Answered a) = answered a
 toldLock (Refused r) = refused r Free
+
+-- an axis as a number: "0 H, 1 V"
+unfoldable pub axisNumber : Axis → ℕ
+axisNumber H = 0
+axisNumber «V» = 1

@@ -1,5 +1,5 @@
 -- The words that every definition of this house is written in: a choice by a test, tests joined, and tests of two
--- numbers. The choice and the joins stay shut (`unfoldable`): proofs follow them by the laws of proofs/Follow.antt.
+-- numbers; and a truth as a number. The choice and the joins stay shut (`unfoldable`): proofs follow them by the laws of proofs/Follow.antt.
 use Prim.Native.Nat.{ℕ}
 use mathlib.Core.Bool.{Bool, true, false}
 use lib.Dec.{leb, ltb, eqb}
@@ -30,3 +30,8 @@ _<?_ a b = ltb a b
 
 abbrev pub _=?_ : ℕ → ℕ → Bool
 _=?_ a b = eqb a b
+
+-- a truth as a number: "truth 1 or 0"
+unfoldable pub bit : Bool → ℕ
+bit true = 1
+bit false = 0

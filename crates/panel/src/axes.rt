@@ -2,7 +2,7 @@
 // slant waits, so that a horizontal drag does not nudge the vertical.
 ghost use mathlib.Core.Path.{_≡_};
 ghost use lib.IntN.{natAbs};
-ghost use Rattle.panel.specs.Axes.{axisOf, lockOf};
+ghost use Rattle.panel.specs.Axes.{axisOf, axisNumber, lockOf};
 use crate::distances;
 use crate::refusals::Refusal;
 
@@ -18,6 +18,16 @@ pub enum Axis {
 pub enum AxisLock {
     Free,
     On(Axis),
+}
+
+// An axis as a number, for the log, the image and C.
+pub fn axis_number(a: Axis) -> u8
+    ensures { λ r. ⌜ r ≡ axisNumber a ⌝ }
+{
+    match a {
+        Axis::H => 0,
+        Axis::V => 1,
+    }
 }
 
 pub enum LockAnswer {

@@ -6,11 +6,13 @@ mod distances;
 mod middle;
 mod points;
 mod refusals;
+mod truths;
 
 pub use axes::Axis;
 pub use axes::AxisLock;
 pub use axes::LockAnswer;
 pub use axes::axis_along;
+pub use axes::axis_number;
 pub use axes::lock_axis;
 pub use axes::magnitude;
 pub use distances::DistAnswer;
@@ -32,3 +34,4 @@ pub use points::all_on_panel;
 pub use points::on_panel;
 pub use refusals::Refusal;
 pub use refusals::number;
+pub use truths::bit;

@@ -19,7 +19,7 @@ answered-requires c κs = search needs
 
 returns : tie.Need-returns
 unfolding captured
-returns c = search (follow, ← c .answered .ensures, ← c .before .with-taken .ensures, ← c .before .before .capture-line .ensures, ← c .before .before .before .before .before .before .is-takeable .ensures)
+returns c = search (follow, ← c .answered .ensures, ← c .before .with-taken .ensures, ← c .before .before .capture-line .ensures, ← c .before .before .before .before .before .before .before .is-takeable .ensures)
 
 with-wish-requires : tie.Need-with-wish-requires
 with-wish-requires c κs = search needs

@@ -13,7 +13,7 @@ answered-requires c κs = search needs
 
 returns : tie.Need-returns
 unfolding grabOf
-returns c = search (follow, ← c .answered .ensures, ← c .before .before .state-ok .ensures)
+returns c = search (follow, ← c .answered .ensures, ← c .before .before .before .state-ok .ensures)
 
 refused-requires : tie.Need-refused-requires
 refused-requires c κs = search needs

@@ -11,12 +11,12 @@ is-active-requires c κs = search needs
 with-direct-requires : tie.Need-with-direct-requires
 with-direct-requires c κs = search needs
 
-with-one-requires : tie.Need-with-one-requires
-with-one-requires c κs = search needs
+with-app-requires : tie.Need-with-app-requires
+with-app-requires c κs = search needs
 
 returns : tie.Need-returns
 unfolding afterCaptureDirect
-returns c = search (follow, ← c .with-one .ensures, ← c .before .with-direct .ensures, ← c .before .before .before .before .is-active .ensures)
+returns c = search (follow, ← c .with-app .ensures, ← c .before .with-direct .ensures, ← c .before .before .before .before .is-active .ensures)
 
 with-wish-requires : tie.Need-with-wish-requires
 with-wish-requires c κs = search needs
@@ -31,7 +31,7 @@ after-capture-direct-spec =
     (tie.spec
     is-active-requires
     with-direct-requires
-    with-one-requires
+    with-app-requires
     returns
     with-wish-requires
     returns-2)

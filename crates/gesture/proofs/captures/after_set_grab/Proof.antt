@@ -11,9 +11,12 @@ at-most-requires c κs = search needs
 with-grab-ms-requires : tie.Need-with-grab-ms-requires
 with-grab-ms-requires c κs = search needs
 
+with-settings-requires : tie.Need-with-settings-requires
+with-settings-requires c κs = search needs
+
 returns : tie.Need-returns
 unfolding afterSetGrab
-returns c = search (follow, ← c .with-grab-ms .ensures, ← c .before .at-most .ensures)
+returns c = search (follow, ← c .with-settings .ensures, ← c .before .with-grab-ms .ensures, ← c .before .before .at-most .ensures)
 
 pub after-set-grab-spec : {M : Type 1} → statement M
-after-set-grab-spec = tie.close (tie.spec at-most-requires with-grab-ms-requires returns)
+after-set-grab-spec = tie.close (tie.spec at-most-requires with-grab-ms-requires with-settings-requires returns)

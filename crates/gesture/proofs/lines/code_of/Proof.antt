@@ -1,6 +1,6 @@
 -- `gesture::lines::code_of` meets its contract. Assumes nothing.
 use Rattle.panel.proofs.Follow.{follow}
-use Rattle.gesture.specs.Codes.{codeOf}
+use Rattle.gesture.specs.code.Codes.{codeOf}
 use borrow.Author.Needs.{needs}
 use Rattle.gesture.proofs.lines.code_of.Statement.{statement}
 use Rattle.gesture.proofs.lines.code_of.Tie as tie

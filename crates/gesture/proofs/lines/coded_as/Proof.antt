@@ -1,6 +1,6 @@
 -- `gesture::lines::coded_as` meets its contract. Assumes nothing.
 use Rattle.panel.proofs.Follow.{follow}
-use Rattle.gesture.specs.Codes.{codedAs}
+use Rattle.gesture.specs.code.Codes.{codedAs}
 use Rattle.gesture.proofs.lines.coded_as.Statement.{statement}
 use Rattle.gesture.proofs.lines.coded_as.Tie as tie
 

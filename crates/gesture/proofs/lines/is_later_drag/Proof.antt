@@ -1,6 +1,6 @@
 -- `gesture::lines::is_later_drag` meets its contract. Assumes nothing.
 use Rattle.panel.proofs.Follow.{follow}
-use Rattle.gesture.specs.Codes.{isLaterDrag}
+use Rattle.gesture.specs.code.Codes.{isLaterDrag}
 use Rattle.gesture.proofs.lines.is_later_drag.Statement.{statement}
 use Rattle.gesture.proofs.lines.is_later_drag.Tie as tie
 

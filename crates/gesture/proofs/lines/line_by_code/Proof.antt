@@ -1,6 +1,6 @@
 -- `gesture::lines::line_by_code` meets its contract. Assumes nothing.
 use Rattle.panel.proofs.Follow.{follow}
-use Rattle.gesture.specs.Codes.{lineByCode}
+use Rattle.gesture.specs.code.Codes.{lineByCode}
 use borrow.Author.Needs.{needs}
 use Rattle.gesture.proofs.lines.line_by_code.Statement.{statement}
 use Rattle.gesture.proofs.lines.line_by_code.Tie as tie

@@ -2,7 +2,7 @@
 use mathlib.Core.Path.{_∙_}
 use mathlib.Core.Bool.{_&&_}
 use Rattle.panel.proofs.Follow.{both}
-use Rattle.gesture.specs.Parts.{multiPlaces}
+use Rattle.gesture.specs.code.Parts.{multiPlaces}
 use borrow.Author.Needs.{needs}
 use Rattle.gesture.proofs.states.centroids_ok.Statement.{statement}
 use Rattle.gesture.proofs.states.centroids_ok.Tie as tie

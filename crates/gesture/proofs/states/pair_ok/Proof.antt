@@ -5,7 +5,7 @@ use Rattle.panel.proofs.Follow.{both, joined}
 use Rattle.panel.specs.Sizes.{width}
 use Rattle.panel.specs.Tests.{_≤?_, _<?_}
 use Rattle.fingers.specs.Pairs.{noPinch}
-use Rattle.gesture.specs.Parts.{pairPart}
+use Rattle.gesture.specs.code.Parts.{pairPart}
 use borrow.Author.Needs.{needs}
 use Rattle.gesture.proofs.states.pair_ok.Statement.{statement}
 use Rattle.gesture.proofs.states.pair_ok.Tie as tie

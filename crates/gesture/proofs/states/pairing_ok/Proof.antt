@@ -1,6 +1,6 @@
 -- `gesture::states::pairing_ok` meets its contract. Assumes nothing.
 use Rattle.panel.proofs.Follow.{follow}
-use Rattle.gesture.specs.Parts.{pairingPart}
+use Rattle.gesture.specs.code.Parts.{pairingPart}
 use borrow.Author.Needs.{needs}
 use Rattle.gesture.proofs.states.pairing_ok.Statement.{statement}
 use Rattle.gesture.proofs.states.pairing_ok.Tie as tie

@@ -2,7 +2,7 @@
 use mathlib.Core.Path.{_∙_}
 use mathlib.Core.Bool.{_&&_}
 use Rattle.panel.proofs.Follow.{both, joined}
-use Rattle.gesture.specs.Parts.{pairPlaces}
+use Rattle.gesture.specs.code.Parts.{pairPlaces}
 use borrow.Author.Needs.{needs}
 use Rattle.gesture.proofs.states.places_ok.Statement.{statement}
 use Rattle.gesture.proofs.states.places_ok.Tie as tie

@@ -1,6 +1,6 @@
 -- `gesture::states::several_ok` meets its contract. Assumes nothing.
 use Rattle.panel.proofs.Follow.{follow}
-use Rattle.gesture.specs.Parts.{severalPart}
+use Rattle.gesture.specs.code.Parts.{severalPart}
 use borrow.Author.Needs.{needs}
 use Rattle.gesture.proofs.states.several_ok.Statement.{statement}
 use Rattle.gesture.proofs.states.several_ok.Tie as tie

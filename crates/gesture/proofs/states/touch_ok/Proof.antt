@@ -1,6 +1,6 @@
 -- `gesture::states::touch_ok` meets its contract. Assumes nothing.
 use Rattle.panel.proofs.Follow.{follow}
-use Rattle.gesture.specs.Parts.{touchPart}
+use Rattle.gesture.specs.code.Parts.{touchPart}
 use borrow.Author.Needs.{needs}
 use Rattle.gesture.proofs.states.touch_ok.Statement.{statement}
 use Rattle.gesture.proofs.states.touch_ok.Tie as tie
