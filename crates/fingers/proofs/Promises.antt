@@ -5,6 +5,7 @@ use Prim.Native.Nat.{ℕ, _-_}
 use Rattle.panel.specs.declared.points.Point.{Point}
 use Rattle.panel.proofs.Promises.{one-answer}
 use Rattle.fingers.specs.Keys.{keyStep}
+use Rattle.fingers.specs.Settings.{unset, setRaw, setGrab}
 use Rattle.fingers.specs.Fields.{reset, untaken, setCaptured, setDirect}
 use Rattle.fingers.specs.Holds.{heldStill}
 use Rattle.fingers.specs.OneFinger.{laterReport}
@@ -30,6 +31,15 @@ elapsed-unique now t = one-answer
 
 pub reset-unique : (p : Point) {r s : One} → r ≡ reset p → s ≡ reset p → r ≡ s
 reset-unique p = one-answer
+
+pub unset-unique : {r s : Settings} → r ≡ unset → s ≡ unset → r ≡ s
+unset-unique = one-answer
+
+pub with-raw-unique : (set : Settings) (on : Bool) {r s : Settings} → r ≡ setRaw set on → s ≡ setRaw set on → r ≡ s
+with-raw-unique set on = one-answer
+
+pub with-grab-ms-unique : (set : Settings) (ms : ℕ) {r s : Settings} → r ≡ setGrab set ms → s ≡ setGrab set ms → r ≡ s
+with-grab-ms-unique set ms = one-answer
 
 pub untaken-unique : {r s : App} → r ≡ untaken → s ≡ untaken → r ≡ s
 untaken-unique = one-answer

@@ -2,6 +2,7 @@
 pub mod Gestures
 pub mod Thresholds
 pub mod Notes
+pub mod Settings
 pub mod Keys
 pub mod Fields
 pub mod Holds

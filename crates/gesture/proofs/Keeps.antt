@@ -6,10 +6,11 @@ use Prim.Native.Nat.{ℕ}
 use native.Mathlib.Omega.{arith}
 use Rattle.panel.specs.declared.points.Event.{Event}
 use Rattle.panel.proofs.Follow.{if-know, if-all}
+use Rattle.fingers.specs.Settings.{unset, setRaw, setGrab}
 use Rattle.fingers.proofs.Kept.{reset-fine, untaken-fine, captured-fine, direct-fine}
 use Rattle.gesture.specs.States.{stateRule}
 use Rattle.gesture.specs.Trackers.{origin, whole, freshTracker}
-use Rattle.gesture.specs.Captures.{setRaw, setGrab, owned, settled, taken, wished, afterCaptureDirect, afterSetGrab}
+use Rattle.gesture.specs.Captures.{owned, settled, taken, wished, afterCaptureDirect, afterSetGrab}
 use Rattle.gesture.specs.Answers.{refused, answered, reported, ticked, captured, eventOf, tickOf, captureOf, captureDirectOf, rawNextOf, setGrabOf, grabOf}
 use Rattle.gesture.specs.Calls.{Call, report, tick, capture, captureDirect, rawNext, setGrabMs, answerOf}
 use Rattle.gesture.specs.declared.record.Tracker.{Tracker}
@@ -19,7 +20,7 @@ use Rattle.gesture.proofs.Facts.{facts, kept}
 use Rattle.gesture.proofs.Steps.{origin-on, report-fine, tick-fine}
 
 pub fresh-kept : stateRule freshTracker ≡ true
-unfolding freshTracker whole
+unfolding freshTracker whole unset
 fresh-kept = kept freshTracker (tt, reset-fine origin origin-on, untaken-fine, omega arith)
 
 abbrev Kept : Answer → Type 0

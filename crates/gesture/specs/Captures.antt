@@ -6,19 +6,12 @@ use Prim.Native.Nat.{ℕ, min}
 use mathlib.Core.Bool.{Bool, false, not}
 use Rattle.panel.specs.Tests.{if_then_else_, _and_}
 use Rattle.fingers.specs.Thresholds.{grabMost}
+use Rattle.fingers.specs.Settings.{setRaw, setGrab}
 use Rattle.fingers.specs.Fields.{setCaptured, setDirect}
 use Rattle.fingers.specs.declared.one.App.{App}
 use Rattle.fingers.specs.declared.settings.Settings.{Settings}
 use Rattle.gesture.specs.Trackers.{whole, isActive}
 use Rattle.gesture.specs.declared.record.Tracker.{Tracker}
-
--- One setting, the others as they are.
-
-unfoldable pub setRaw : Settings → Bool → Settings
-setRaw set on = record { «grab_ms» = set .«grab_ms»; «raw_next» = on }
-
-unfoldable pub setGrab : Settings → ℕ → Settings
-setGrab set ms = record { «grab_ms» = ms; «raw_next» = set .«raw_next» }
 
 -- the touch is the app's, and the wish is cleared
 unfoldable pub owned : Tracker → App → Tracker

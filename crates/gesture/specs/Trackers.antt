@@ -6,6 +6,7 @@ use Prim.Native.Nat.{ℕ}
 use mathlib.Core.Bool.{Bool, true, false}
 use Rattle.panel.specs.declared.points.Point.{Point}
 use Rattle.fingers.specs.Fields.{reset, untaken}
+use Rattle.fingers.specs.Settings.{unset}
 use Rattle.fingers.specs.declared.one.One.{One}
 use Rattle.fingers.specs.declared.one.App.{App}
 use Rattle.fingers.specs.declared.keys.Keys.{Keys}
@@ -29,11 +30,8 @@ whole settings keys touch one app end =
 abbrev pub keysAt : ℕ → ℕ → Keys
 keysAt told wanted = record { told = told; wanted = wanted }
 
-abbrev pub freshSettings : Settings
-freshSettings = record { «grab_ms» = 0; «raw_next» = false }
-
 unfoldable pub freshTracker : Tracker
-freshTracker = whole freshSettings (keysAt 0 0) Idle (reset origin) untaken Never
+freshTracker = whole unset (keysAt 0 0) Idle (reset origin) untaken Never
 
 unfoldable pub isActive : Touch → Bool
 isActive Idle = false

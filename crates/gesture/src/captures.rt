@@ -3,28 +3,12 @@
 ghost use mathlib.Core.Path.{_≡_};
 ghost use Prim.Native.Nat.{min};
 ghost use Rattle.fingers.specs.Thresholds.{grabMost};
-ghost use Rattle.gesture.specs.Captures.{setRaw, setGrab, takes, owned, settled, taken, wished, afterCaptureDirect, afterSetGrab};
+ghost use Rattle.gesture.specs.Captures.{takes, owned, settled, taken, wished, afterCaptureDirect, afterSetGrab};
 use crate::record;
 use crate::record::Tracker;
 use fingers::App;
 use fingers::GRAB_MOST_MS;
 use fingers::Settings;
-
-fn with_raw(set: Settings, on: bool) -> Settings
-    ensures { λ r. ⌜ r ≡ setRaw set on ⌝ }
-{
-    let mut n = set;
-    n.raw_next = on;
-    n
-}
-
-fn with_grab_ms(set: Settings, ms: u16) -> Settings
-    ensures { λ r. ⌜ r ≡ setGrab set ms ⌝ }
-{
-    let mut n = set;
-    n.grab_ms = ms;
-    n
-}
 
 // Whether a capture takes the touch: one is on, and not taken yet.
 pub(crate) fn is_takeable(t: Tracker) -> bool
@@ -45,7 +29,7 @@ fn with_app(t: Tracker, app: App) -> Tracker
     let set = t.settings;
     let mut n = t;
     n.app = app;
-    n.settings = with_raw(set, false);
+    n.settings = fingers::with_raw(set, false);
     n
 }
 
@@ -71,7 +55,7 @@ pub(crate) fn with_wish(t: Tracker, on: bool) -> Tracker
     ensures { λ r. ⌜ r ≡ wished t on ⌝ }
 {
     let set = t.settings;
-    with_settings(t, with_raw(set, on))
+    with_settings(t, fingers::with_raw(set, on))
 }
 
 pub(crate) fn after_capture_direct(t: Tracker) -> Tracker
@@ -95,5 +79,5 @@ pub(crate) fn after_set_grab(t: Tracker, ms: u16) -> Tracker
     ensures { λ r. ⌜ r ≡ afterSetGrab t ms ⌝ }
 {
     let set = t.settings;
-    with_settings(t, with_grab_ms(set, at_most(ms)))
+    with_settings(t, fingers::with_grab_ms(set, at_most(ms)))
 }

@@ -53,10 +53,7 @@ pub fn fresh() -> Tracker
         app: fingers::untaken(),
         multi_end: MultiEnd::Never,
         keys: Keys { told: 0, wanted: 0 },
-        settings: Settings {
-            grab_ms: 0,
-            raw_next: false,
-        },
+        settings: fingers::unset(),
     }
 }
 

@@ -11,9 +11,12 @@ reset-requires c κs = search needs
 untaken-requires : tie.Need-untaken-requires
 untaken-requires c κs = search needs
 
+unset-requires : tie.Need-unset-requires
+unset-requires c κs = search needs
+
 returns : tie.Need-returns
 unfolding freshTracker whole
-returns c = search (follow, ← c .untaken .ensures, ← c .before .reset .ensures)
+returns c = search (follow, ← c .unset .ensures, ← c .before .untaken .ensures, ← c .before .before .reset .ensures)
 
 pub fresh-spec : {M : Type 1} → statement M
-fresh-spec = tie.close (tie.spec reset-requires untaken-requires returns)
+fresh-spec = tie.close (tie.spec reset-requires untaken-requires unset-requires returns)
