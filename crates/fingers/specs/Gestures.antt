@@ -4,11 +4,11 @@
 -- "One-finger gestures are Down, Tap, LongPress, Drag, Grab, Up, Move and the four swipes." A key change is KeyDown or
 -- KeyUp.
 use Prim.Native.Nat.{ℕ}
-use mathlib.Core.Bool.{Bool}
+use mathlib.Core.Bool.{Bool, _||_}
 use mathlib.Core.List.{List, [], _∷_}
 use lib.ListN.{getD}
 use Rattle.panel.specs.Axes.{axisNumber}
-use Rattle.panel.specs.Tests.{_or_, _≤?_, _=?_, bit}
+use Rattle.panel.specs.Tests.{_≤?_, _=?_, bit}
 use Rattle.panel.specs.declared.axes.Axis.{Axis}
 use Rattle.fingers.specs.declared.gestures.Gesture.{Gesture}
 use Rattle.fingers.specs.declared.gestures.Gesture.the-variants.{Down, Tap, LongPress, Drag, Grab, Up, SwipeLeft, SwipeRight, SwipeUp, SwipeDown, Cancel, MultiSwipeDown, KeyDown, KeyUp, Move, Pinch, PinchEnd}
@@ -50,11 +50,12 @@ keyUp = 13
 abbrev pub move : ℕ
 move = 14
 
+-- (`||` and not the shut `or`: of a gesture that is known these come out by computing)
 abbrev pub isOneFinger : Gesture → Bool
-isOneFinger g = (placeOf g ≤? swipeDown) or (placeOf g =? move)
+isOneFinger g = (placeOf g ≤? swipeDown) || (placeOf g =? move)
 
 abbrev pub isKeyChange : Gesture → Bool
-isKeyChange g = (placeOf g =? keyDown) or (placeOf g =? keyUp)
+isKeyChange g = (placeOf g =? keyDown) || (placeOf g =? keyUp)
 
 abbrev pub isDrag : Gesture → Bool
 isDrag g = placeOf g =? drag

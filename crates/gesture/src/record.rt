@@ -29,13 +29,14 @@ pub enum MultiEnd {
     At(u64),
 }
 
+// Of the orders tried, the one in which the calls take the fewest instructions, as also in One (docs/BENCH.md).
 pub struct Tracker {
-    pub touch: Touch,
-    pub one: One,
     pub app: App,
     pub multi_end: MultiEnd,
     pub keys: Keys,
     pub settings: Settings,
+    pub touch: Touch,
+    pub one: One,
 }
 
 // What a call comes to, and the tracker that it leaves.

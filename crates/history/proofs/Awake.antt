@@ -6,6 +6,7 @@ use mathlib.Core.Bool.{false}
 use mathlib.Core.List.{List, [], _∷_, _++_}
 use borrow.Author.Tests.{le-ltb}
 use Rattle.fingers.specs.declared.gestures.Gesture.the-variants.{Down}
+use Rattle.gesture.specs.Runs.{made, run, after}
 use Rattle.gesture.specs.Calls.{Call, report, answerOf}
 use Rattle.gesture.specs.Trackers.{freshTracker}
 use Rattle.gesture.specs.declared.answers.Given.{Given}
@@ -16,23 +17,16 @@ use Rattle.panel.specs.Tests.{_=?_}
 use Rattle.panel.specs.declared.points.Event.{Event}
 use Rattle.history.specs.Gestures.{tellsKey}
 use Rattle.history.specs.Places.{known, Place}
-use Rattle.history.specs.Runs.{Said, run, history, Accepted, AllAccepted}
+use Rattle.history.specs.Runs.{Said, said, sayings, history, Accepted, AllAccepted}
 use Rattle.history.specs.Touches.{Touch, off, on, Before, gap, close, Seen, start, over, counted, watch}
 use Rattle.history.proofs.Sentences.{accepted-answered, told-mask-unspent, down-at-once}
 
 -- One call more.
 
-ran : Tracker → List Call → Tracker
-ran t [] = t
-ran t (c ∷ cs) = ran (answerOf t c .tracker) cs
-
-abbrev said : Tracker → Call → Said
-said t c = record { call = c; refusal = answerOf t c .refusal; given = answerOf t c .gesture }
-
-one-more : (cs : List Call) (t : Tracker) (c : Call) → run t (cs ++ (c ∷ [])) ≡ run t cs ++ (said (ran t cs) c ∷ [])
-unfolding run ran
+one-more : (cs : List Call) (t : Tracker) (c : Call) → sayings t (cs ++ (c ∷ [])) ≡ sayings t cs ++ (said (made (after t cs) c) ∷ [])
+unfolding run after
 one-more [] t c = refl
-one-more (d ∷ cs) t c = ap (λ (l : List Said). said t d ∷ l) (one-more cs (answerOf t d .tracker) c)
+one-more (d ∷ cs) t c = ap (λ (l : List Said). said (made t d) ∷ l) (one-more cs (answerOf t d .tracker) c)
 
 all-more : (cs : List Call) (c : Call) → AllAccepted cs → Accepted c → AllAccepted (cs ++ (c ∷ []))
 all-more [] c al a = (a, tt)
@@ -49,7 +43,7 @@ knownAfter cs = known start (history cs)
 
 module _ (cs : List Call) (now : ℕ) (ev : Event) (all : AllAccepted cs) (accepted : Accepted (report now ev)) where
   last : Said
-  last = said (ran freshTracker cs) (report now ev)
+  last = said (made (after freshTracker cs) (report now ev))
 
   last-split : history (cs ++ (report now ev ∷ [])) ≡ history cs ++ (last ∷ [])
   unfolding history last

@@ -4,7 +4,9 @@ use Prim.Native.Nat.{ℕ, _<_}
 use mathlib.Core.Path.{_≡_, refl, sym, ap, subst, _∙_}
 use mathlib.Core.Bool.{Bool, true, false, true≢false}
 use mathlib.Core.List.{List, [], _∷_}
+use Rattle.fingers.specs.Gestures.{isKeyChange}
 use Rattle.fingers.specs.Keys.{keyStep}
+use Rattle.fingers.specs.Settings.{setRaw, setGrab}
 use Rattle.fingers.specs.declared.gestures.Gesture.{Gesture}
 use Rattle.fingers.specs.declared.gestures.Gesture.the-variants.{Down, Tap, LongPress, Drag, Grab, Up, SwipeLeft, SwipeRight, SwipeUp, SwipeDown, Cancel, MultiSwipeDown, KeyDown, KeyUp, Move, Pinch, PinchEnd}
 use Rattle.fingers.specs.declared.gestures.Outcome.the-variants.{Gives}
@@ -13,11 +15,11 @@ use Rattle.gesture.proofs.Keeps.{call-kept}
 use Rattle.gesture.specs.Lines.{isLocked}
 use Rattle.gesture.specs.Answers.{pointsInUse, answered, givenBy, reported, eventOf, ticked, tickOf, captured, captureOf, captureDirectOf, rawNextOf, setGrabOf}
 use Rattle.gesture.specs.Calls.{Call, report, tick, capture, captureDirect, rawNext, setGrabMs, answerOf}
-use Rattle.gesture.specs.Captures.{taken, wished, afterCaptureDirect, afterSetGrab}
+use Rattle.gesture.specs.Captures.{owned, settled, taken, wished, afterCaptureDirect, afterSetGrab}
 use Rattle.gesture.specs.Reports.{fingersOf, keysThenFingers, reportStep}
 use Rattle.gesture.specs.States.{stateRule}
 use Rattle.gesture.specs.Ticks.{stillDown, keysThenHold, tickStep}
-use Rattle.gesture.specs.Trackers.{setKeys, setOne, setGrab, step}
+use Rattle.gesture.specs.Trackers.{whole, keysAt, keyed, step}
 use Rattle.gesture.specs.declared.answers.Answer.{Answer}
 use Rattle.gesture.specs.declared.answers.Given.{Given}
 use Rattle.gesture.specs.declared.answers.Given.the-variants.{Nothing, Gave}
@@ -30,7 +32,7 @@ use Rattle.panel.specs.Points.{allOnPanel}
 use Rattle.panel.specs.Tests.{if_then_else_}
 use Rattle.panel.specs.declared.points.Event.{Event}
 use Rattle.history.specs.Demand.{NextChange, Tells, SeveralSilent, DownAtOnce, ExceptedSilent, Repeats}
-use Rattle.history.specs.Gestures.{isKeyChange, tellsKey}
+use Rattle.history.specs.Gestures.{tellsKey}
 use Rattle.history.specs.Keys.{changes, toldBy, told}
 use Rattle.history.specs.Runs.{Accepted}
 use Rattle.history.specs.Touches.{Seen, counted, keyTold, watch}
@@ -40,18 +42,18 @@ use Rattle.history.proofs.Moves.{Fits, EndFits, fingers-moved, starts-d
 -- A tracker and an observer that belong together.
 pub record Together (t : Tracker) (s : Seen) : Type 0 where
   pub valid : stateRule t ≡ true
-  pub keys : s .keys ≡ t .keys
-  pub byte : t .keys < 256
-  pub want : t .«keys_want» < 256
+  pub keys : s .keys ≡ t .keys .told
+  pub byte : t .keys .told < 256
+  pub want : t .keys .wanted < 256
   pub touch : Fits (t .touch) (s .touch)
   pub end : EndFits (t .touch) (t .«multi_end») (s .before)
 
 -- What a call c gives, apart from the state rule: s′ is what is known after it.
 record Gives′ (t : Tracker) (s : Seen) (c : Call) (g : Given) (t′ : Tracker) (s′ : Seen) : Type 0 where
   watched : watch s c g ≡ s′
-  keys : s′ .keys ≡ t′ .keys
-  byte : t′ .keys < 256
-  want : t′ .«keys_want» < 256
+  keys : s′ .keys ≡ t′ .keys .told
+  byte : t′ .keys .told < 256
+  want : t′ .keys .wanted < 256
   touch : Fits (t′ .touch) (s′ .touch)
   end : EndFits (t′ .touch) (t′ .«multi_end») (s′ .before)
   several : SeveralSilent (s .touch) (s′ .touch) g
@@ -60,8 +62,8 @@ record Gives′ (t : Tracker) (s : Seen) (c : Call) (g : Given) (t′ : Tracker)
 
 -- What it does to the changes that are left to a mask.
 pub record Left (t : Tracker) (mask : ℕ) (c : Call) (g : Given) (t′ : Tracker) : Type 1 where
-  pub want : t′ .«keys_want» ≡ mask
-  pub tells : (rest : List Gesture → Type 0) → rest (changes (t′ .keys) mask) → Tells (changes (t .keys) mask) c g rest
+  pub want : t′ .keys .wanted ≡ mask
+  pub tells : (rest : List Gesture → Type 0) → rest (changes (t′ .keys .told) mask) → Tells (changes (t .keys .told) mask) c g rest
 
 -- The report.
 
@@ -73,10 +75,10 @@ module _ (t : Tracker) (s : Seen) (i : Together t s) (now : ℕ) (ev : Event) (b
   ReportLeft st = Left t (ev .keys) (report now ev) (givenBy (st .out)) (st .tracker)
 
   -- no change is left: the fingers are read
-  fingers-give : ReportGives (fingersOf (setKeys t (t .keys) (ev .keys)) ev now)
-  unfolding setKeys
+  fingers-give : ReportGives (fingersOf (keyed t (keysAt (t .keys .told) (ev .keys))) ev now)
+  unfolding keyed whole
   fingers-give =
-      let u = setKeys t (t .keys) (ev .keys) in
+      let u = keyed t (keysAt (t .keys .told) (ev .keys)) in
       let m = fingers-moved u s ev now (i .touch) (i .end) in (
         counted s (ev .points) now,
         record {
@@ -92,10 +94,10 @@ module _ (t : Tracker) (s : Seen) (i : Together t s) (now : ℕ) (ev : Event) (b
         },
       )
 
-  fingers-left : changes (t .keys) (ev .keys) ≡ [] → ReportLeft (fingersOf (setKeys t (t .keys) (ev .keys)) ev now)
-  unfolding setKeys
+  fingers-left : changes (t .keys .told) (ev .keys) ≡ [] → ReportLeft (fingersOf (keyed t (keysAt (t .keys .told) (ev .keys))) ev now)
+  unfolding keyed whole
   fingers-left none =
-      let u = setKeys t (t .keys) (ev .keys) in
+      let u = keyed t (keysAt (t .keys .told) (ev .keys)) in
       let m = fingers-moved u s ev now (i .touch) (i .end) in
       record {
         want = m .want;
@@ -105,8 +107,8 @@ module _ (t : Tracker) (s : Seen) (i : Together t s) (now : ℕ) (ev : Event) (b
       }
 
   -- a change is told
-  key-gives : (g : Gesture) (gs : List Gesture) → KeyIs (t .keys) (ev .keys) (g ∷ gs) (keyStep (t .keys) (ev .keys)) → ReportGives (step (Gives g) (setKeys t (toldBy (t .keys) g) (ev .keys)))
-  unfolding setKeys givenBy
+  key-gives : (g : Gesture) (gs : List Gesture) → KeyIs (t .keys .told) (ev .keys) (g ∷ gs) (keyStep (t .keys .told) (ev .keys)) → ReportGives (step (Gives g) (keyed t (keysAt (toldBy (t .keys .told) g) (ev .keys))))
+  unfolding keyed whole givenBy
   key-gives g gs k = (
     keyTold s (Gave g),
     record {
@@ -122,20 +124,20 @@ module _ (t : Tracker) (s : Seen) (i : Together t s) (now : ℕ) (ev : Event) (b
     },
   )
 
-  key-left : (g : Gesture) (gs : List Gesture) → changes (t .keys) (ev .keys) ≡ g ∷ gs → KeyIs (t .keys) (ev .keys) (g ∷ gs) (keyStep (t .keys) (ev .keys)) →
-      ReportLeft (step (Gives g) (setKeys t (toldBy (t .keys) g) (ev .keys)))
-  unfolding setKeys givenBy
+  key-left : (g : Gesture) (gs : List Gesture) → changes (t .keys .told) (ev .keys) ≡ g ∷ gs → KeyIs (t .keys .told) (ev .keys) (g ∷ gs) (keyStep (t .keys .told) (ev .keys)) →
+      ReportLeft (step (Gives g) (keyed t (keysAt (toldBy (t .keys .told) g) (ev .keys))))
+  unfolding keyed whole givenBy
   key-left g gs e k = record {
     want = refl;
     tells = λ rest h. subst (λ (l : List Gesture). NextChange l (Gave g) rest) (sym e) (refl, subst rest (k .rest) h);
   }
 
-  report-gives : (l : List Gesture) → KeyIs (t .keys) (ev .keys) l (keyStep (t .keys) (ev .keys)) → ReportGives (reportStep t ev now)
+  report-gives : (l : List Gesture) → KeyIs (t .keys .told) (ev .keys) l (keyStep (t .keys .told) (ev .keys)) → ReportGives (reportStep t ev now)
   unfolding reportStep keysThenFingers
   report-gives [] k = subst (λ (x : KeyStep). ReportGives (keysThenFingers x t ev now)) (sym k) fingers-give
   report-gives (g ∷ gs) k = subst (λ (x : KeyStep). ReportGives (keysThenFingers x t ev now)) (sym (k .is)) (key-gives g gs k)
 
-  report-left : (l : List Gesture) → changes (t .keys) (ev .keys) ≡ l → KeyIs (t .keys) (ev .keys) l (keyStep (t .keys) (ev .keys)) → ReportLeft (reportStep t ev now)
+  report-left : (l : List Gesture) → changes (t .keys .told) (ev .keys) ≡ l → KeyIs (t .keys .told) (ev .keys) l (keyStep (t .keys .told) (ev .keys)) → ReportLeft (reportStep t ev now)
   unfolding reportStep keysThenFingers
   report-left [] e k = subst (λ (x : KeyStep). ReportLeft (keysThenFingers x t ev now)) (sym k) (fingers-left e)
   report-left (g ∷ gs) e k = subst (λ (x : KeyStep). ReportLeft (keysThenFingers x t ev now)) (sym (k .is)) (key-left g gs e k)
@@ -171,7 +173,7 @@ module _ (t : Tracker) (s : Seen) (i : Together t s) (now : ℕ) where
   TickGives st = (s′ : Seen) × Gives′ t s (tick now) (givenBy (st .out)) (st .tracker) s′
 
   abbrev TickLeft : Step → Type 1
-  TickLeft st = Left t (t .«keys_want») (tick now) (givenBy (st .out)) (st .tracker)
+  TickLeft st = Left t (t .keys .wanted) (tick now) (givenBy (st .out)) (st .tracker)
 
   still-gives : TickGives (stillDown (t .touch) t now)
   still-gives =
@@ -190,18 +192,18 @@ module _ (t : Tracker) (s : Seen) (i : Together t s) (now : ℕ) where
         },
       )
 
-  still-left : changes (t .keys) (t .«keys_want») ≡ [] → TickLeft (stillDown (t .touch) t now)
+  still-left : changes (t .keys .told) (t .keys .wanted) ≡ [] → TickLeft (stillDown (t .touch) t now)
   still-left none =
       let m = tick-moved t s now (t .touch) refl (i .touch) (i .end) in
       record {
         want = m .want;
         tells = λ rest h.
             subst (λ (l : List Gesture). NextChange l (givenBy (stillDown (t .touch) t now .out)) rest) (sym none)
-            (m .no-key, subst rest (ap (λ (k : ℕ). changes k (t .«keys_want»)) (m .keys) ∙ none) h);
+            (m .no-key, subst rest (ap (λ (k : ℕ). changes k (t .keys .wanted)) (m .keys) ∙ none) h);
       }
 
-  tick-key-gives : (g : Gesture) (gs : List Gesture) → KeyIs (t .keys) (t .«keys_want») (g ∷ gs) (keyStep (t .keys) (t .«keys_want»)) → TickGives (step (Gives g) (setKeys t (toldBy (t .keys) g) (t .«keys_want»)))
-  unfolding setKeys givenBy
+  tick-key-gives : (g : Gesture) (gs : List Gesture) → KeyIs (t .keys .told) (t .keys .wanted) (g ∷ gs) (keyStep (t .keys .told) (t .keys .wanted)) → TickGives (step (Gives g) (keyed t (keysAt (toldBy (t .keys .told) g) (t .keys .wanted))))
+  unfolding keyed whole givenBy
   tick-key-gives g gs k = (
     keyTold s (Gave g),
     record {
@@ -217,20 +219,20 @@ module _ (t : Tracker) (s : Seen) (i : Together t s) (now : ℕ) where
     },
   )
 
-  tick-key-left : (g : Gesture) (gs : List Gesture) → changes (t .keys) (t .«keys_want») ≡ g ∷ gs → KeyIs (t .keys) (t .«keys_want») (g ∷ gs) (keyStep (t .keys) (t .«keys_want»)) →
-      TickLeft (step (Gives g) (setKeys t (toldBy (t .keys) g) (t .«keys_want»)))
-  unfolding setKeys givenBy
+  tick-key-left : (g : Gesture) (gs : List Gesture) → changes (t .keys .told) (t .keys .wanted) ≡ g ∷ gs → KeyIs (t .keys .told) (t .keys .wanted) (g ∷ gs) (keyStep (t .keys .told) (t .keys .wanted)) →
+      TickLeft (step (Gives g) (keyed t (keysAt (toldBy (t .keys .told) g) (t .keys .wanted))))
+  unfolding keyed whole givenBy
   tick-key-left g gs e k = record {
     want = refl;
     tells = λ rest h. subst (λ (l : List Gesture). NextChange l (Gave g) rest) (sym e) (refl, subst rest (k .rest) h);
   }
 
-  tick-gives : (l : List Gesture) → KeyIs (t .keys) (t .«keys_want») l (keyStep (t .keys) (t .«keys_want»)) → TickGives (tickStep t now)
+  tick-gives : (l : List Gesture) → KeyIs (t .keys .told) (t .keys .wanted) l (keyStep (t .keys .told) (t .keys .wanted)) → TickGives (tickStep t now)
   unfolding tickStep keysThenHold
   tick-gives [] k = subst (λ (x : KeyStep). TickGives (keysThenHold x t now)) (sym k) still-gives
   tick-gives (g ∷ gs) k = subst (λ (x : KeyStep). TickGives (keysThenHold x t now)) (sym (k .is)) (tick-key-gives g gs k)
 
-  tick-left : (l : List Gesture) → changes (t .keys) (t .«keys_want») ≡ l → KeyIs (t .keys) (t .«keys_want») l (keyStep (t .keys) (t .«keys_want»)) → TickLeft (tickStep t now)
+  tick-left : (l : List Gesture) → changes (t .keys .told) (t .keys .wanted) ≡ l → KeyIs (t .keys .told) (t .keys .wanted) l (keyStep (t .keys .told) (t .keys .wanted)) → TickLeft (tickStep t now)
   unfolding tickStep keysThenHold
   tick-left [] e k = subst (λ (x : KeyStep). TickLeft (keysThenHold x t now)) (sym k) (still-left e)
   tick-left (g ∷ gs) e k = subst (λ (x : KeyStep). TickLeft (keysThenHold x t now)) (sym (k .is)) (tick-key-left g gs e k)
@@ -238,8 +240,8 @@ module _ (t : Tracker) (s : Seen) (i : Together t s) (now : ℕ) where
 -- The captures and settings: they give nothing, and leave keys, touch and the stored end as they are.
 
 record Leaves (t t′ : Tracker) : Type 0 where
-  keys : t′ .keys ≡ t .keys
-  want : t′ .«keys_want» ≡ t .«keys_want»
+  keys : t′ .keys .told ≡ t .keys .told
+  want : t′ .keys .wanted ≡ t .keys .wanted
   touch : t′ .touch ≡ t .touch
   end : t′ .«multi_end» ≡ t .«multi_end»
 
@@ -259,8 +261,8 @@ module _ (t : Tracker) (s : Seen) (i : Together t s) where
     excepted = λ h. refl;
   }
 
-  quiet-left : (c : Call) (mask : ℕ) (t′ : Tracker) → t .«keys_want» ≡ mask → Leaves t t′ →
-      ((rest : List Gesture → Type 0) → rest (changes (t .keys) mask) → Tells (changes (t .keys) mask) c Nothing rest) → Left t mask c Nothing t′
+  quiet-left : (c : Call) (mask : ℕ) (t′ : Tracker) → t .keys .wanted ≡ mask → Leaves t t′ →
+      ((rest : List Gesture → Type 0) → rest (changes (t .keys .told) mask) → Tells (changes (t .keys .told) mask) c Nothing rest) → Left t mask c Nothing t′
   quiet-left c mask t′ w l f = record { want = l .want ∙ w; tells = λ rest h. f rest (subst (λ (k : ℕ). rest (changes k mask)) (l .keys) h) }
 
   -- each of them on a tracker that keeps the state rule
@@ -271,23 +273,23 @@ module _ (t : Tracker) (s : Seen) (i : Together t s) where
   quiet-of b x y e q = subst Quiet (sym (if-true b x y e)) q
 
   capture-quiet : Quiet (captureOf t)
-  unfolding captureOf captured answered taken wished setOne
+  unfolding captureOf captured answered taken wished owned settled setRaw whole
   capture-quiet =
       quiet-of _ _ _ (i .valid)
       (if-all Quiet _ (refl, refl, record { keys = refl; want = refl; touch = refl; end = refl }) (refl, refl, record { keys = refl; want = refl; touch = refl; end = refl }))
 
   direct-quiet : Quiet (captureDirectOf t)
-  unfolding captureDirectOf answered afterCaptureDirect wished setOne
+  unfolding captureDirectOf answered afterCaptureDirect wished owned settled setRaw whole
   direct-quiet =
       quiet-of _ _ _ (i .valid)
       (refl, refl, if-all (λ (u : Tracker). Leaves t u) _ (record { keys = refl; want = refl; touch = refl; end = refl }) (record { keys = refl; want = refl; touch = refl; end = refl }))
 
   raw-quiet : (wish : Bool) → Quiet (rawNextOf t wish)
-  unfolding rawNextOf answered wished setOne
+  unfolding rawNextOf answered wished owned settled setRaw whole
   raw-quiet wish = quiet-of _ _ _ (i .valid) (refl, refl, record { keys = refl; want = refl; touch = refl; end = refl })
 
   grab-quiet : (ms : ℕ) → Quiet (setGrabOf t ms)
-  unfolding setGrabOf answered afterSetGrab setGrab
+  unfolding setGrabOf answered afterSetGrab settled setGrab whole
   grab-quiet ms = quiet-of _ _ _ (i .valid) (refl, refl, record { keys = refl; want = refl; touch = refl; end = refl })
 
 -- Any accepted call.
@@ -318,8 +320,8 @@ module _ (t : Tracker) (s : Seen) (i : Together t s) where
 
   call-gives : (c : Call) → Accepted c → CallGives c (answerOf t c)
   unfolding reported ticked answered
-  call-gives (report now ev) a = subst (CallGives (report now ev)) (sym (event-is ev now (a .0))) (report-gives t s i now ev (a .1) (changes (t .keys) (ev .keys)) (key-law (t .keys) (ev .keys) (i .byte) (a .1)))
-  call-gives (tick now) a = subst (CallGives (tick now)) (sym (tick-is now)) (tick-gives t s i now (changes (t .keys) (t .«keys_want»)) (key-law (t .keys) (t .«keys_want») (i .byte) (i .want)))
+  call-gives (report now ev) a = subst (CallGives (report now ev)) (sym (event-is ev now (a .0))) (report-gives t s i now ev (a .1) (changes (t .keys .told) (ev .keys)) (key-law (t .keys .told) (ev .keys) (i .byte) (a .1)))
+  call-gives (tick now) a = subst (CallGives (tick now)) (sym (tick-is now)) (tick-gives t s i now (changes (t .keys .told) (t .keys .wanted)) (key-law (t .keys .told) (t .keys .wanted) (i .byte) (i .want)))
   call-gives capture a = quiet-call capture (captureOf t) (capture-quiet t s i) refl tt
   call-gives captureDirect a = quiet-call captureDirect (captureDirectOf t) (direct-quiet t s i) refl tt
   call-gives (rawNext wish) a = quiet-call (rawNext wish) (rawNextOf t wish) (raw-quiet t s i wish) refl tt
@@ -331,18 +333,18 @@ module _ (t : Tracker) (s : Seen) (i : Together t s) where
   pub report-leaves : (now : ℕ) (ev : Event) → Accepted (report now ev) → CallLeft (ev .keys) (report now ev) (answerOf t (report now ev))
   unfolding reported answered
   report-leaves now ev a =
-      subst (CallLeft (ev .keys) (report now ev)) (sym (event-is ev now (a .0))) (report-left t s i now ev (a .1) (changes (t .keys) (ev .keys)) refl (key-law (t .keys) (ev .keys) (i .byte) (a .1)))
+      subst (CallLeft (ev .keys) (report now ev)) (sym (event-is ev now (a .0))) (report-left t s i now ev (a .1) (changes (t .keys .told) (ev .keys)) refl (key-law (t .keys .told) (ev .keys) (i .byte) (a .1)))
 
-  quiet-leaves : (c : Call) (mask : ℕ) (a : Answer) → t .«keys_want» ≡ mask → Quiet t s i a →
-      ((rest : List Gesture → Type 0) → rest (changes (t .keys) mask) → Tells (changes (t .keys) mask) c Nothing rest) → CallLeft mask c a
+  quiet-leaves : (c : Call) (mask : ℕ) (a : Answer) → t .keys .wanted ≡ mask → Quiet t s i a →
+      ((rest : List Gesture → Type 0) → rest (changes (t .keys .told) mask) → Tells (changes (t .keys .told) mask) c Nothing rest) → CallLeft mask c a
   quiet-leaves c mask a w q f = subst (λ (g : Given). Left t mask c g (a .tracker)) (sym (q .1)) (quiet-left t s i c mask (a .tracker) w (q .2) f)
 
-  pub call-leaves : (c : Call) (mask : ℕ) → t .«keys_want» ≡ mask → Accepted c → Repeats mask c → CallLeft mask c (answerOf t c)
+  pub call-leaves : (c : Call) (mask : ℕ) → t .keys .wanted ≡ mask → Accepted c → Repeats mask c → CallLeft mask c (answerOf t c)
   unfolding ticked answered
   call-leaves (report now ev) mask w a r = subst (λ (m : ℕ). CallLeft m (report now ev) (answerOf t (report now ev))) r (report-leaves now ev a)
   call-leaves (tick now) mask w a r =
       subst (λ (m : ℕ). CallLeft m (tick now) (answerOf t (tick now))) w
-      (subst (CallLeft (t .«keys_want») (tick now)) (sym (tick-is now)) (tick-left t s i now (changes (t .keys) (t .«keys_want»)) refl (key-law (t .keys) (t .«keys_want») (i .byte) (i .want))))
+      (subst (CallLeft (t .keys .wanted) (tick now)) (sym (tick-is now)) (tick-left t s i now (changes (t .keys .told) (t .keys .wanted)) refl (key-law (t .keys .told) (t .keys .wanted) (i .byte) (i .want))))
   call-leaves capture mask w a r = quiet-leaves capture mask (captureOf t) w (capture-quiet t s i) (λ rest h. (refl, h))
   call-leaves captureDirect mask w a r = quiet-leaves captureDirect mask (captureDirectOf t) w (direct-quiet t s i) (λ rest h. (refl, h))
   call-leaves (rawNext wish) mask w a r = quiet-leaves (rawNext wish) mask (rawNextOf t wish) w (raw-quiet t s i wish) (λ rest h. (refl, h))

@@ -5,21 +5,23 @@ use mathlib.Core.Path.{_≡_, refl}
 use mathlib.Core.Bool.{true}
 use mathlib.Core.List.{List, [], _∷_}
 use lib.Count.{trailingZeros}
-use Rattle.fingers.specs.Fields.{reset, setGrabbed, setLongSent, setAxis, setCaptured, setDirect}
+use Rattle.fingers.specs.Fields.{reset, setGrabbed, setLongSent, setAxis, untaken, setCaptured, setDirect}
 use Rattle.fingers.specs.Holds.{holdOf, grabDue, longFrom, longDue, heldStill}
 use Rattle.fingers.specs.Keys.{without, lowest, flipped, keyStep}
+use Rattle.fingers.specs.Settings.{unset, setRaw, setGrab}
 use Rattle.fingers.specs.OneFinger.{earlyNow, tracked, samePoint, moveFrom, axisAt, dragAlong, mayDrag, moving, grabOrMoving, laterReport}
 use Rattle.fingers.specs.Pairs.{spanAlong, pairAxis, newPair, keepsOrder, stateNext, pairAt, pairNext, spanTold, pinchOf}
 use Rattle.fingers.specs.Releases.{tapOrNote, isSwipe, swipeOrNote, releaseBy, releaseOf}
 use Rattle.fingers.specs.Several.{multiFrom, multiGrown, multiSeen, pinchOrSeen, twoFingers, pinchEndOrSeen, threeFingers, farDown, swipedDown, multiRule, isPinch, multiEnd}
 use Rattle.fingers.specs.declared.gestures.Gesture.the-variants.{Down, Tap, Drag, Up, Cancel, MultiSwipeDown, KeyDown, KeyUp, Pinch, PinchEnd}
 use Rattle.gesture.specs.Answers.{answered, givenBy, pointsInUse, reported, eventOf, ticked, tickOf, captured, captureOf, captureDirectOf, rawNextOf, setGrabOf}
+use Rattle.gesture.specs.Runs.{run}
 use Rattle.gesture.specs.Calls.{Call, report, tick, capture, captureDirect, rawNext, setGrabMs}
-use Rattle.gesture.specs.Captures.{takes, taken, wished, afterCaptureDirect, afterSetGrab}
+use Rattle.gesture.specs.Captures.{owned, settled, takes, taken, wished, afterCaptureDirect, afterSetGrab}
 use Rattle.gesture.specs.Reports.{upOutcome, endStored, allUp, isLastFinger, residualTouch, newTouch, touchDown, goesOn, oneFinger, twoStart, two, moreStart, more, several, twoOf, moreOf, fingersOf, keysThenFingers, reportStep}
 use Rattle.gesture.specs.States.{heldPoints, centroids, spanRule, pairRule, mostRule, rawRule, stateRule}
 use Rattle.gesture.specs.Ticks.{stillDown, keysThenHold, tickStep}
-use Rattle.gesture.specs.Trackers.{freshTracker, isActive, setTouch, setKeys, setOne, setGrab}
+use Rattle.gesture.specs.Trackers.{whole, freshTracker, isActive, touched, keyed}
 use Rattle.gesture.specs.declared.answers.Given.{Given}
 use Rattle.gesture.specs.declared.answers.Given.the-variants.{Nothing, Gave}
 use Rattle.panel.specs.Axes.{axisOf, lockOf}
@@ -29,7 +31,7 @@ use Rattle.panel.specs.Points.{onPanel, allOnPanel, fingers}
 use Rattle.panel.specs.Tests.{if_then_else_, _and_, _or_}
 use Rattle.panel.specs.declared.axes.Axis.the-variants.{H}
 use Rattle.panel.specs.declared.points.Point.{Point}
-use Rattle.history.specs.Runs.{run, history}
+use Rattle.history.specs.Runs.{history}
 use Rattle.history.specs.Spent.{heard}
 
 -- what is heard of calls on a fresh tracker
@@ -114,7 +116,7 @@ pub record Worked : Type 0 where
       ∷ Nothing ∷ Nothing ∷ Gave (Down (at 100 50)) ∷ Gave (Tap (at 100 50)) ∷ [])
 
 pub worked-histories : Worked
-unfolding heard history run eventOf tickOf captureOf captureDirectOf rawNextOf setGrabOf answered givenBy pointsInUse reported ticked captured takes taken wished afterCaptureDirect afterSetGrab upOutcome endStored allUp isLastFinger residualTouch newTouch touchDown goesOn oneFinger twoStart two moreStart more several twoOf moreOf fingersOf keysThenFingers reportStep heldPoints centroids spanRule pairRule mostRule rawRule stateRule stillDown keysThenHold tickStep freshTracker isActive setTouch setKeys setOne setGrab reset setGrabbed setLongSent setAxis setCaptured setDirect holdOf grabDue longFrom longDue heldStill without lowest flipped keyStep trailingZeros earlyNow tracked samePoint moveFrom axisAt dragAlong mayDrag moving grabOrMoving laterReport spanAlong pairAxis newPair keepsOrder stateNext pairAt pairNext spanTold pinchOf tapOrNote isSwipe swipeOrNote releaseBy releaseOf multiFrom multiGrown multiSeen pinchOrSeen twoFingers pinchEndOrSeen threeFingers farDown swipedDown multiRule isPinch multiEnd axisOf lockOf total mean middle difference distance distance2 onPanel allOnPanel fingers if_then_else_ _and_ _or_
+unfolding heard history run eventOf tickOf captureOf captureDirectOf rawNextOf setGrabOf answered givenBy pointsInUse reported ticked captured takes taken wished afterCaptureDirect afterSetGrab upOutcome endStored allUp isLastFinger residualTouch newTouch touchDown goesOn oneFinger twoStart two moreStart more several twoOf moreOf fingersOf keysThenFingers reportStep heldPoints centroids spanRule pairRule mostRule rawRule stateRule stillDown keysThenHold tickStep freshTracker isActive whole touched keyed owned settled unset setRaw setGrab reset setGrabbed setLongSent setAxis untaken setCaptured setDirect holdOf grabDue longFrom longDue heldStill without lowest flipped keyStep trailingZeros earlyNow tracked samePoint moveFrom axisAt dragAlong mayDrag moving grabOrMoving laterReport spanAlong pairAxis newPair keepsOrder stateNext pairAt pairNext spanTold pinchOf tapOrNote isSwipe swipeOrNote releaseBy releaseOf multiFrom multiGrown multiSeen pinchOrSeen twoFingers pinchEndOrSeen threeFingers farDown swipedDown multiRule isPinch multiEnd axisOf lockOf total mean middle difference distance distance2 onPanel allOnPanel fingers if_then_else_ _and_ _or_
 worked-histories = record {
   lingering-finger = refl;
   at-299 = refl;

@@ -7,6 +7,7 @@ use mathlib.Core.Logic.{⊎-elim}
 use native.Mathlib.Nat.{eq-zero-or-pos}
 use native.Mathlib.Omega.{arith}
 use borrow.Author.Tests.{lt-ltb, le-ltb}
+use Rattle.fingers.specs.Gestures.{isKeyChange, isOneFinger}
 use Rattle.fingers.proofs.Bytes.{lowest-lt}
 use Rattle.fingers.specs.Keys.{without, lowest, flipped, keyStep}
 use Rattle.fingers.specs.declared.gestures.Gesture.{Gesture}
@@ -15,7 +16,6 @@ use Rattle.fingers.specs.declared.keys.KeyStep.{KeyStep}
 use Rattle.fingers.specs.declared.keys.KeyStep.the-variants.{Same, Flipped}
 use Rattle.panel.proofs.Follow.{if-true, if-false}
 use Rattle.panel.specs.Tests.{if_then_else_}
-use Rattle.history.specs.Gestures.{isKeyChange, isOneFinger}
 use Rattle.history.specs.Keys.{has, filter, allKeys, lacking, changes, toldBy}
 use Rattle.history.proofs.KeyBits.{flip-is, flip-lt, low-has, low-keys, no-keys, more-is, lacks-lt, out-more, out-others, in-more, in-others, in-first, not-second}
 

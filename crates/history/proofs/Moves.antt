@@ -4,7 +4,7 @@ use mathlib.Core.Path.{_≡_, refl, sym, ap, subst, _∙_}
 use mathlib.Core.Bool.{Bool, true, false, not, true≢false}
 use native.Mathlib.Omega.{arith}
 use borrow.Author.Tests.{ltb-true, ltb-false, lt-ltb, le-ltb, eq-eqb, ne-eqb}
-use Rattle.fingers.specs.Sizes.{liftGap}
+use Rattle.fingers.specs.Thresholds.{liftGap}
 use Rattle.fingers.specs.declared.gestures.Gesture.the-variants.{Down}
 use Rattle.fingers.specs.declared.gestures.Outcome.{Outcome}
 use Rattle.fingers.specs.declared.gestures.Outcome.the-variants.{Quiet}
@@ -13,7 +13,7 @@ use Rattle.gesture.specs.Answers.{givenBy}
 use Rattle.gesture.specs.Reports.{upOutcome, endStored, allUp, isLastFinger, residualTouch, newTouch, touchDown, goesOn, oneFinger, twoStart, two, moreStart, more, twoOf, moreOf, fingersOf}
 use Rattle.gesture.specs.Reports as reports
 use Rattle.gesture.specs.Ticks.{stillDown}
-use Rattle.gesture.specs.Trackers.{setTouch}
+use Rattle.gesture.specs.Trackers.{whole, touched}
 use Rattle.gesture.specs.declared.answers.Given.the-variants.{Gave}
 use Rattle.gesture.specs.declared.record.MultiEnd.{MultiEnd}
 use Rattle.gesture.specs.declared.record.MultiEnd.the-variants as end
@@ -53,8 +53,8 @@ EndFits (touch.Multi m pair) e b = Unit {0}
 -- what fingers do: no key is told of, and the two stay together
 pub record Moved (t : Tracker) (s : Seen) (out : Outcome) (t′ : Tracker) (s′ : Seen) : Type 0 where
   pub no-key : tellsKey (givenBy out) ≡ false
-  pub keys : t′ .keys ≡ t .keys
-  pub want : t′ .«keys_want» ≡ t .«keys_want»
+  pub keys : t′ .keys .told ≡ t .keys .told
+  pub want : t′ .keys .wanted ≡ t .keys .wanted
   pub seen : s′ .keys ≡ s .keys
   pub touch : Fits (t′ .touch) (s′ .touch)
   pub end : EndFits (t′ .touch) (t′ .«multi_end») (s′ .before)
@@ -119,8 +119,8 @@ module _ (s : Seen) (now : ℕ) where
   abbrev up : Seen
   up = record { keys = s .keys; touch = off; before = over (s .touch) (s .before) now }
 
-  up-moved : (x : record-touch.Touch) (t : Tracker) → Fits x (s .touch) → EndFits x (t .«multi_end») (s .before) → Moved t s (upOutcome x (t .one) now) (setTouch t touch.Idle (t .one) (endStored x (t .«multi_end») now)) up
-  unfolding upOutcome endStored setTouch givenBy tests.if_then_else_ tests._and_
+  up-moved : (x : record-touch.Touch) (t : Tracker) → Fits x (s .touch) → EndFits x (t .«multi_end») (s .before) → Moved t s (upOutcome x (t .one) (t .app) now) (touched t touch.Idle (t .one) (t .app) (endStored x (t .«multi_end») now)) up
+  unfolding upOutcome endStored touched whole givenBy tests.if_then_else_ tests._and_
   up-moved touch.Idle t f e = record {
     no-key = refl;
     keys = refl;
@@ -152,7 +152,7 @@ module _ (s : Seen) (now : ℕ) where
     excepted = λ h. absurd (neither false (exceptedNeverMore (s .touch)) refl (never-excepted (s .touch) f) h);
   }
   up-moved (touch.Down start since) t f e = record {
-    no-key = release-plain (t .one) start since now;
+    no-key = release-plain (t .one) (t .app) start since now;
     keys = refl;
     want = refl;
     seen = refl;
@@ -189,7 +189,7 @@ module _ (s : Seen) (now : ℕ) where
   single = record { keys = s .keys; touch = on (withOne (s .touch) (s .before) now); before = s .before }
 
   touch-down : (t : Tracker) (p : Point) → s .touch ≡ off → EndFits touch.Idle (t .«multi_end») (s .before) → Moved t s (touchDown t p now .out) (touchDown t p now .tracker) single
-  unfolding touchDown residualTouch newTouch setTouch givenBy tests._and_
+  unfolding touchDown residualTouch newTouch touched whole givenBy tests._and_
   touch-down t p f e =
       let same = last-is-close (t .«multi_end») (s .before) now e in
       if-know (λ (st : Step). Moved t s (st .out) (st .tracker) single) _ _ _
@@ -219,7 +219,7 @@ module _ (s : Seen) (now : ℕ) where
 
   one-moved : (x : record-touch.Touch) (t : Tracker) (p : Point) → Fits x (s .touch) → EndFits x (t .«multi_end») (s .before) → x ≡ t .touch →
       Moved t s (oneFinger x t p now .out) (oneFinger x t p now .tracker) single
-  unfolding oneFinger goesOn setTouch givenBy tests._and_
+  unfolding oneFinger goesOn touched whole givenBy tests._and_
   one-moved touch.Idle t p f e q = touch-down t p f e
   one-moved touch.Residual t p f e q =
       quiet-moved t s single refl (subst (λ (x : record-touch.Touch). Fits x (single .touch)) q (ap (λ (o : On). on (withOne o (s .before) now)) f))
@@ -228,7 +228,7 @@ module _ (s : Seen) (now : ℕ) where
       quiet-moved t s single refl (subst (λ (x : record-touch.Touch). Fits x (single .touch)) q (one-several (s .touch) (s .before) now f))
       (subst (λ (x : record-touch.Touch). EndFits x (t .«multi_end») (s .before)) q tt)
   one-moved (touch.Down start since) t p f e q = record {
-    no-key = later-plain (t .one) start since p now (t .«grab_ms»);
+    no-key = later-plain (t .one) (t .app) start since p now (t .settings);
     keys = refl;
     want = refl;
     seen = refl;
@@ -258,7 +258,7 @@ module _ (s : Seen) (now : ℕ) where
   -- a touch of several, after an answer that gives no one-finger gesture, and none at all where the touch was excepted
   several-moved : (t : Tracker) (st : MultiStep) → NoOne (st .out) → (exceptedNeverMore (s .touch) ≡ true → tellsKeysOnly (givenBy (st .out)) ≡ true) →
       Moved t s (reports.several st t .out) (reports.several st t .tracker) many
-  unfolding reports.several setTouch
+  unfolding reports.several touched whole
   several-moved t st n ex = record {
     no-key = n .0;
     keys = refl;
@@ -324,12 +324,12 @@ tick-quiet t s x q f e =
 
 pub tick-moved : (t : Tracker) (s : Seen) (now : ℕ) (x : record-touch.Touch) → x ≡ t .touch → Fits x (s .touch) → EndFits x (t .«multi_end») (s .before) →
     Moved t s (stillDown x t now .out) (stillDown x t now .tracker) s
-unfolding stillDown goesOn setTouch givenBy tests._and_
+unfolding stillDown goesOn touched whole givenBy tests._and_
 tick-moved t s now touch.Idle q f e = tick-quiet t s touch.Idle q f e
 tick-moved t s now touch.Residual q f e = tick-quiet t s touch.Residual q f e
 tick-moved t s now (touch.Multi m pair) q f e = tick-quiet t s (touch.Multi m pair) q f e
 tick-moved t s now (touch.Down start since) q f e = record {
-  no-key = still-plain (t .one) start since now (t .«grab_ms»);
+  no-key = still-plain (t .one) (t .app) start since now (t .settings);
   keys = refl;
   want = refl;
   seen = refl;

@@ -11,6 +11,8 @@ use Rattle.fingers.specs.Releases.{tapOrNote, swipeOrNote, releaseBy, releaseOf
 use Rattle.fingers.specs.Several.{pinchOrSeen, twoFingers, pinchEndOrSeen, threeFingers, multiRule, multiEnd}
 use Rattle.fingers.specs.declared.gestures.Outcome.{Outcome}
 use Rattle.fingers.specs.declared.one.One.{One}
+use Rattle.fingers.specs.declared.one.App.{App}
+use Rattle.fingers.specs.declared.settings.Settings.{Settings}
 use Rattle.fingers.specs.declared.one.OneStep.{OneStep}
 use Rattle.fingers.specs.declared.pair.Pairing.{Pairing}
 use Rattle.fingers.specs.declared.pair.Pairing.the-variants.{Unpaired, Paired}
@@ -43,14 +45,14 @@ unfolding dragAlong givenBy
 drag-plain Free o start p = refl
 drag-plain (On a) o start p = refl
 
-pub later-plain : (o : One) (start : Point) (since : ℕ) (p : Point) (now grab : ℕ) → NoKeyStep (laterReport o start since p now grab)
+pub later-plain : (o : One) (app : App) (start : Point) (since : ℕ) (p : Point) (now : ℕ) (set : Settings) → NoKeyStep (laterReport o app start since p now set)
 unfolding laterReport grabOrMoving moving moveFrom givenBy
-later-plain o start since p now grab =
+later-plain o app start since p now set =
     if-all NoKeyStep _ refl (if-all NoKeyStep _ (if-all NoKey _ refl refl) (if-all NoKeyStep _ (drag-plain _ _ start p) refl))
 
-pub still-plain : (o : One) (start : Point) (since now grab : ℕ) → NoKeyStep (heldStill o start since now grab)
+pub still-plain : (o : One) (app : App) (start : Point) (since now : ℕ) (set : Settings) → NoKeyStep (heldStill o app start since now set)
 unfolding heldStill givenBy
-still-plain o start since now grab = if-all NoKeyStep _ refl (if-all NoKeyStep _ refl refl)
+still-plain o app start since now set = if-all NoKeyStep _ refl (if-all NoKeyStep _ refl refl)
 
 tap-plain : (o : One) (start : Point) (note : ℕ) → NoKey (tapOrNote o start note)
 unfolding tapOrNote givenBy
@@ -60,9 +62,9 @@ swipe-plain : (start p1 : Point) (dx dy : ℕ) → NoKey (swipeOrNote start p1 d
 unfolding swipeOrNote givenBy
 swipe-plain start p1 dx dy = if-all NoKey _ (if-all NoKey _ refl refl) (if-all NoKey _ (if-all NoKey _ refl refl) refl)
 
-pub release-plain : (o : One) (start : Point) (since now : ℕ) → NoKey (releaseOf o start since now)
+pub release-plain : (o : One) (app : App) (start : Point) (since now : ℕ) → NoKey (releaseOf o app start since now)
 unfolding releaseOf releaseBy givenBy
-release-plain o start since now =
+release-plain o app start since now =
     if-all NoKey _ refl (if-all NoKey _ (tap-plain o start _) (if-all NoKey _ (swipe-plain start (o .last) _ _) (tap-plain o start _)))
 
 -- Several fingers.

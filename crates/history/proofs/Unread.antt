@@ -4,24 +4,26 @@ use Prim.Native.Nat.{ℕ}
 use mathlib.Core.Path.{_≡_, sym, ap, subst, _∙_}
 use mathlib.Core.Bool.{true, true≢false}
 use mathlib.Core.List.{List, [], _∷_, _++_, tail}
+use Rattle.fingers.specs.Gestures.{isKeyChange}
 use Rattle.fingers.specs.Keys.{keyStep}
 use Rattle.fingers.specs.declared.gestures.Gesture.{Gesture}
 use Rattle.fingers.specs.declared.gestures.Outcome.the-variants.{Gives}
 use Rattle.fingers.specs.declared.keys.KeyStep.{KeyStep}
 use Rattle.fingers.specs.declared.keys.KeyStep.the-variants.{Flipped}
 use Rattle.gesture.specs.Answers.{answered, givenBy, reported}
+use Rattle.gesture.specs.Runs.{run}
 use Rattle.gesture.specs.Calls.{Call, report, answerOf}
 use Rattle.gesture.specs.Reports.{fingersOf, keysThenFingers, reportStep}
-use Rattle.gesture.specs.Trackers.{freshTracker, setKeys, step}
+use Rattle.gesture.specs.Trackers.{freshTracker, whole, keysAt, keyed, step}
 use Rattle.gesture.specs.declared.answers.Answer.{Answer}
 use Rattle.gesture.specs.declared.answers.Given.{Given}
 use Rattle.gesture.specs.declared.answers.Given.the-variants.{Gave}
 use Rattle.gesture.specs.declared.record.Step.{Step}
 use Rattle.gesture.specs.declared.record.Tracker.{Tracker}
 use Rattle.panel.specs.declared.points.Event.{Event}
-use Rattle.history.specs.Gestures.{isKeyChange, tellsKey}
+use Rattle.history.specs.Gestures.{tellsKey}
 use Rattle.history.specs.Keys.{changes, toldBy}
-use Rattle.history.specs.Runs.{run, history, Accepted, AllAccepted}
+use Rattle.history.specs.Runs.{sayings, history, Accepted, AllAccepted}
 use Rattle.history.specs.Spent.{heard, Spent}
 use Rattle.history.specs.Touches.{Seen, start, watch}
 use Rattle.history.proofs.Calls.{Together, event-is, call-good}
@@ -34,25 +36,25 @@ module _ (t : Tracker) (s : Seen) (i : Together t s) (now now′ : ℕ) (ev ev�
   Spends st = tellsKey (givenBy (st .out)) ≡ true → st ≡ reportStep t ev′ now′
 
   -- the fingers are read: no key change answers
-  read : Spends (fingersOf (setKeys t (t .keys) (ev .keys)) ev now)
-  unfolding setKeys
-  read h = absurd (true≢false (sym h ∙ fingers-moved (setKeys t (t .keys) (ev .keys)) s ev now (i .touch) (i .end) .no-key))
+  read : Spends (fingersOf (keyed t (keysAt (t .keys .told) (ev .keys))) ev now)
+  unfolding keyed whole
+  read h = absurd (true≢false (sym h ∙ fingers-moved (keyed t (keysAt (t .keys .told) (ev .keys))) s ev now (i .touch) (i .end) .no-key))
 
   -- a key change answers: the same one to the other report
-  unread : (g : Gesture) → keyStep (t .keys) (ev .keys) ≡ Flipped g (toldBy (t .keys) g) → Spends (step (Gives g) (setKeys t (toldBy (t .keys) g) (ev .keys)))
+  unread : (g : Gesture) → keyStep (t .keys .told) (ev .keys) ≡ Flipped g (toldBy (t .keys .told) g) → Spends (step (Gives g) (keyed t (keysAt (toldBy (t .keys .told) g) (ev .keys))))
   unfolding reportStep keysThenFingers
   unread g k h =
-      let k′ : keyStep (t .keys) (ev′ .keys) ≡ Flipped g (toldBy (t .keys) g) = ap (keyStep (t .keys)) (sym same) ∙ k in
-      ap (λ (m : ℕ). step (Gives g) (setKeys t (toldBy (t .keys) g) m)) same ∙ ap (λ (x : KeyStep). keysThenFingers x t ev′ now′) (sym k′)
+      let k′ : keyStep (t .keys .told) (ev′ .keys) ≡ Flipped g (toldBy (t .keys .told) g) = ap (keyStep (t .keys .told)) (sym same) ∙ k in
+      ap (λ (m : ℕ). step (Gives g) (keyed t (keysAt (toldBy (t .keys .told) g) m))) same ∙ ap (λ (x : KeyStep). keysThenFingers x t ev′ now′) (sym k′)
 
-  spent-step : (l : List Gesture) → KeyIs (t .keys) (ev .keys) l (keyStep (t .keys) (ev .keys)) → Spends (reportStep t ev now)
+  spent-step : (l : List Gesture) → KeyIs (t .keys .told) (ev .keys) l (keyStep (t .keys .told) (ev .keys)) → Spends (reportStep t ev now)
   unfolding reportStep keysThenFingers
   spent-step [] k = subst (λ (x : KeyStep). Spends (keysThenFingers x t ev now)) (sym k) read
   spent-step (g ∷ gs) k = subst (λ (x : KeyStep). Spends (keysThenFingers x t ev now)) (sym (k .is)) (unread g (k .is))
 
   -- what is heard at the report and after it, from its answer on
   heard-after : List Call → Answer → List Given
-  heard-after ds a = a .gesture ∷ heard (run (a .tracker) ds)
+  heard-after ds a = a .gesture ∷ heard (sayings (a .tracker) ds)
 
   spent-call : (ds : List Call) → Accepted (report now ev) → Accepted (report now′ ev′) → tellsKey (answerOf t (report now ev) .gesture) ≡ true →
       heard-after ds (answerOf t (report now ev)) ≡ heard-after ds (answerOf t (report now′ ev′))
@@ -61,12 +63,12 @@ module _ (t : Tracker) (s : Seen) (i : Together t s) (now now′ : ℕ) (ev ev�
       let p = event-is t s i ev now (a .0) in
       let p′ = event-is t s i ev′ now′ (a′ .0) in
       let e : reportStep t ev now ≡ reportStep t ev′ now′ =
-      spent-step (changes (t .keys) (ev .keys)) (key-law (t .keys) (ev .keys) (i .byte) (a .1)) (ap (λ (x : Answer). tellsKey (x .gesture)) (sym p) ∙ h) in
-      ap (heard-after ds) p ∙ ap (λ (st : Step). givenBy (st .out) ∷ heard (run (st .tracker) ds)) e ∙ ap (heard-after ds) (sym p′)
+      spent-step (changes (t .keys .told) (ev .keys)) (key-law (t .keys .told) (ev .keys) (i .byte) (a .1)) (ap (λ (x : Answer). tellsKey (x .gesture)) (sym p) ∙ h) in
+      ap (heard-after ds) p ∙ ap (λ (st : Step). givenBy (st .out) ∷ heard (sayings (st .tracker) ds)) e ∙ ap (heard-after ds) (sym p′)
 
 spent-run : (cs ds : List Call) (t : Tracker) (s : Seen) (now now′ : ℕ) (ev ev′ : Event) (g : Gesture) → Together t s → AllAccepted cs → Accepted (report now ev) → Accepted (report now′ ev′) →
-    ev .keys ≡ ev′ .keys → isKeyChange g ≡ true → heard (run t (cs ++ (report now ev ∷ []))) ≡ heard (run t cs) ++ (Gave g ∷ []) →
-    heard (run t (cs ++ (report now ev ∷ ds))) ≡ heard (run t (cs ++ (report now′ ev′ ∷ ds)))
+    ev .keys ≡ ev′ .keys → isKeyChange g ≡ true → heard (sayings t (cs ++ (report now ev ∷ []))) ≡ heard (sayings t cs) ++ (Gave g ∷ []) →
+    heard (sayings t (cs ++ (report now ev ∷ ds))) ≡ heard (sayings t (cs ++ (report now′ ev′ ∷ ds)))
 unfolding run heard heard-after
 spent-run [] ds t s now now′ ev ev′ g i al a a′ e k h =
     let f : answerOf t (report now ev) .gesture ≡ Gave g = cc in

@@ -4,9 +4,10 @@
 use Prim.Native.Nat.{ℕ, _<_}
 use mathlib.Core.Path.{_≡_}
 use mathlib.Core.Bool.{true}
-use mathlib.Core.List.{List, [], _∷_}
+use mathlib.Core.List.{List, [], _∷_, map}
 use Rattle.gesture.specs.Answers.{pointsInUse}
-use Rattle.gesture.specs.Calls.{Call, report, tick, capture, captureDirect, rawNext, setGrabMs, answerOf}
+use Rattle.gesture.specs.Calls.{Call, report, tick, capture, captureDirect, rawNext, setGrabMs}
+use Rattle.gesture.specs.Runs.{Made, run}
 use Rattle.gesture.specs.Trackers.{freshTracker}
 use Rattle.gesture.specs.declared.answers.Given.{Given}
 use Rattle.gesture.specs.declared.record.Tracker.{Tracker}
@@ -18,15 +19,15 @@ pub record Said : Type 0 where
   pub refusal : ℕ
   pub given : Given
 
+abbrev pub said : Made → Said
+said m = record { call = m .call; refusal = m .answer .refusal; given = m .answer .gesture }
+
 -- the history that calls make on a tracker, oldest first
-unfoldable pub run : Tracker → List Call → List Said
-run t [] = []
-run t (c ∷ cs) =
-    let a = answerOf t c in
-    record { call = c; refusal = a .refusal; given = a .gesture } ∷ run (a .tracker) cs
+abbrev pub sayings : Tracker → List Call → List Said
+sayings t cs = map said (run t cs)
 
 unfoldable pub history : List Call → List Said
-history cs = run freshTracker cs
+history cs = sayings freshTracker cs
 
 -- a call that document 01 accepts: the points in use of a report are on the panel. (A mask is a byte, by its type.)
 abbrev pub Accepted : Call → Type 0

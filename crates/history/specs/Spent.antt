@@ -6,12 +6,12 @@ use Prim.Native.Nat.{ℕ}
 use mathlib.Core.Path.{_≡_}
 use mathlib.Core.Bool.{true}
 use mathlib.Core.List.{List, [], _∷_, _++_}
+use Rattle.fingers.specs.Gestures.{isKeyChange}
 use Rattle.fingers.specs.declared.gestures.Gesture.{Gesture}
 use Rattle.gesture.specs.Calls.{Call, report}
 use Rattle.gesture.specs.declared.answers.Given.{Given}
 use Rattle.gesture.specs.declared.answers.Given.the-variants.{Gave}
 use Rattle.panel.specs.declared.points.Event.{Event}
-use Rattle.history.specs.Gestures.{isKeyChange}
 use Rattle.history.specs.Runs.{Said, history, Accepted, AllAccepted}
 
 -- what is heard of a history: the gesture of each call, if any
