@@ -43,7 +43,7 @@ use Rattle.gesture.proofs.answers.Answer as S
 use Rattle.gesture.proofs.answers.Answer.Laws as S′
 use Rattle.lent.specs.Lent.{toldBy, TellsAndLeaves}
 use Rattle.lent.specs.declared.told.Told.{Told}
-use Rattle.lent.proofs.Records.{tracker-named, tracker-at, mach, tells, tellsS, spelled, of-tracker, telling, Telling, told-of, to-told, goes-told}
+use Rattle.lent.proofs.Records.{tracker-named, tracker-at, fieldsIn, tracker-field, tracker-place, mach, tells, tellsS, spelled, of-tracker, telling, Telling, told-of, to-told, goes-told}
 use Rattle.lent.proofs.Arguments.{Argument}
 use Rattle.lent.proofs.told.Told as N
 use Rattle.lent.proofs.told.Told.Laws as N′
@@ -137,26 +137,26 @@ module _ (P : Argument) where
             opens ! tt T.the-row {h = h} b o (λ vs. spelt ! T.the-row (Is T.the-row) (shows 𝓤 H A T.the-row) (λ t. mach t ∷ []) tells fullShare h vs b o $
             move ! (1 ∷ []) $ peeks ! T.the-row (Is T.the-row) (shows 𝓤 H A T.the-row) h (mach h ∷ []) (λ was. move ! (1 ∷ 0 ∷ []) $
             -- [the record's cell; what the Tracker owns; the open borrow; obs; auth; true; what the other parameters own; the copy; …; the answer; …; the other parameters; …; the reference; …; room for the result; …]
-            assigns ! (of-opd ! (load ! (from ! (hop ! (look ! 13 refl) (stop !))) (look-raw ! 0 refl))) (from ! (stop !)) (init ! 7 refl (LL.lawful T.the-type T′.the-laws 𝓤 H A W .typed h _ was .0)) $
+            assigns ! (of-opd ! (load ! (from ! (hop ! {τ = T′.mir} (look ! 13 refl) (stop !))) (look-raw ! 0 {τ = T′.mir} refl))) (from ! (stop !)) (init ! 7 {τ = T′.mir} refl (LL.lawful T.the-type T′.the-laws 𝓤 H A W .typed h _ was .0)) $
             owned ! T.the-row (Is T.the-row) (LL.makes T.the-type T′.the-plain 𝓤 H A) h _ was $ use1 W (raw (Stepping 𝓤 H A .pre to-step)) goes-step $
             calls-at ! fm (Stepping 𝓤 H A) known to-step (and-then ! (load ! (from ! (stop !)) (look ! 8 refl)) (and-then ! (load ! (from ! (stop !)) (look ! 12 refl)) (no-more !))) (λ v.
             use1 W (later (some (λ (a : Answer). (‵ ftrue ⊛ ‵ (S.the-row .own a (v ∷ []))) ⊛ raw (ensured 𝓤 H A stepped (stepping 𝓤) tt (h, (y, tt)) tt a)))) (id⊢ 𝓤 _) $ await ! tt $ pick ! (λ a.
             split ! $ move ! (1 ∷ []) $ use1 W (raw (fact 𝓤 (a ≡ answer h y))) (made-of 𝓤 H A h y a) $ heard ! (a ≡ answer h y) (λ e. split ! $ drop ! $
             peeks ! S.the-row (Is S.the-row) (shows 𝓤 H A S.the-row) a (v ∷ []) (λ is.
-            land ! (from ! (stop !)) (init ! 10 refl (LL.lawful S.the-type S′.the-laws 𝓤 H A W .typed a _ is .0)) $ rewrite ! 10 (λ (u : Val). ‵ (fat fullShare S′.mir l₃ 0 u)) (ap only (tellsS a (v ∷ []) is)) refl $ drop ! $
+            land ! (from ! (stop !)) (init ! 10 {τ = S′.mir} refl (LL.lawful S.the-type S′.the-laws 𝓤 H A W .typed a _ is .0)) $ rewrite ! 10 (λ (u : Val). ‵ (fat fullShare S′.mir l₃ 0 u)) (ap only (tellsS a (v ∷ []) is)) refl $ drop ! $
             -- as before, with the answer in its place: its tracker is stored
-            assigns ! (of-opd ! (load ! (from ! (fld ! {τ = T′.mir} {d = tracker-at} refl (stop !))) (look-in ! 9 (sub ! 3 {τ = T′.mir} {d = tracker-at} refl (whole !))))) (from ! (hop ! (look ! 13 refl) (stop !)))
-            (store-raw ! 0 refl (LL.lawful T.the-type T′.the-laws 𝓤 H A W .typed (a .tracker) _ (of-tracker a v is) .0)) $
+            assigns ! (of-opd ! (load ! (from ! (fld ! {τ = T′.mir} {d = tracker-at} tracker-place (stop !))) (look-in ! 9 (sub ! {τs = fieldsIn S′.mir} 3 {τ = T′.mir} {d = tracker-at} tracker-field (whole !))))) (from ! (hop ! {τ = T′.mir} (look ! 13 refl) (stop !)))
+            (store-raw ! 0 {τ = T′.mir} refl (LL.lawful T.the-type T′.the-laws 𝓤 H A W .typed (a .tracker) _ (of-tracker a v is) .0)) $
             owned ! S.the-row (Is S.the-row) (LL.makes S.the-type S′.the-plain 𝓤 H A) a _ (spelled a v is) $ use1 W (raw (Telling 𝓤 H A .pre (to-told 𝓤 H A a))) (goes-told 𝓤 H A W a) $
             calls-at ! fm (Telling 𝓤 H A) known′ (to-told 𝓤 H A a) (and-then ! (load ! (from ! (stop !)) (look ! 10 refl)) (no-more !)) (λ u.
             use1 W (later (some (λ (r : Told). (‵ ftrue ⊛ ‵ (N.the-row .own r (u ∷ []))) ⊛ raw (ensured 𝓤 H A told-by.ended (telling 𝓤 H A) tt (a, tt) tt r)))) (id⊢ 𝓤 _) $ await ! tt $ pick ! (λ r.
             split ! $ move ! (1 ∷ []) $ use1 W (raw (fact 𝓤 (r ≡ toldBy a))) (told-of 𝓤 H A a r) $ heard ! (r ≡ toldBy a) (λ told. split ! $ drop ! $
             peeks ! N.the-row (Is N.the-row) (shows 𝓤 H A N.the-row) r (u ∷ []) (λ tis.
-            land ! (from ! (stop !)) (init ! 16 refl (LL.lawful N.the-type N′.the-laws 𝓤 H A W .typed r _ tis .0)) $
+            land ! (from ! (stop !)) (init ! 16 {τ = N′.mir} refl (LL.lawful N.the-type N′.the-laws 𝓤 H A W .typed r _ tis .0)) $
             -- [what the Told owns; the record's cell; what the old Tracker owns; the open borrow; obs; auth; …]
             move ! (2 ∷ []) $ drop ! $ owned ! T.the-row (Is T.the-row) (LL.makes T.the-type T′.the-plain 𝓤 H A) (a .tracker) _ (of-tracker a v is) $
             move ! (2 ∷ 0 ∷ 3 ∷ 4 ∷ 5 ∷ []) $ closes ! tt T.the-row (a .tracker) (mach (a .tracker) ∷ []) b o $
-            returns ! (look ! 14 refl) $ forget ! 6 refl $ forget ! 8 refl $ forget ! 10 refl $ forget ! 12 refl $ forget ! 14 refl $
+            returns ! (look ! 14 {τ = N′.mir} refl) $ forget ! 6 refl $ forget ! 8 refl $ forget ! 10 refl $ forget ! 12 refl $ forget ! 14 refl $
             move ! (14 ∷ 15 ∷ []) $ free1 ! $ move ! (12 ∷ 13 ∷ []) $ free1 ! $ move ! (10 ∷ 11 ∷ []) $ free1 ! $ move ! (8 ∷ 9 ∷ []) $ free1 ! $ move ! (6 ∷ 7 ∷ []) $ free1 ! $ free0 ! $
             keep ! (0 ∷ 1 ∷ 2 ∷ 3 ∷ 5 ∷ []) $ by ! (exits a r u e told))))))))))))))))
 

@@ -8,13 +8,14 @@ use Rattle.panel.specs.declared.points.Event.{Event}
 use Rattle.panel.proofs.Promises.{one-answer}
 use Rattle.gesture.specs.Answers.{eventOf, tickOf, captureOf, captureDirectOf, rawNextOf, setGrabOf, grabOf}
 use Rattle.gesture.specs.Calls.{Call, answerOf}
+use Rattle.gesture.specs.Runs.{run, after}
 use Rattle.gesture.specs.declared.record.Tracker.{Tracker}
 use Rattle.gesture.specs.declared.lines.Log.the-variants.{Silent}
 use Rattle.gesture.specs.declared.answers.Given.the-variants.{Nothing}
 use Rattle.gesture.specs.declared.answers.Answer.{Answer}
 use Rattle.gesture.proofs.Promises as by-value
 use Rattle.lent.specs.Lent.{toldBy, grabToldBy, TellsAndLeaves}
-use Rattle.lent.specs.Runs.{LentRun, toldOf, trackerAfter}
+use Rattle.lent.specs.Runs.{LentRun, toldOf}
 use Rattle.lent.specs.declared.told.Told.{Told}
 use Rattle.lent.specs.declared.told.GrabTold.{GrabTold}
 
@@ -98,7 +99,8 @@ grab-unique t = one-answer
 
 -- A run on a lent tracker is the run by value.
 
-pub run-by-value : (cs : List Call) (t : Tracker) (tolds : List Told) (last : Tracker) → LentRun t cs tolds last → (tolds ≡ toldOf t cs) × (last ≡ trackerAfter t cs)
+pub run-by-value : (cs : List Call) (t : Tracker) (tolds : List Told) (last : Tracker) → LentRun t cs tolds last → (tolds ≡ toldOf t cs) × (last ≡ after t cs)
+unfolding run after
 run-by-value [] t tolds last ran = ran
 run-by-value (c ∷ cs) t tolds last (told, left, rest, is, (tells, leaves), ran) =
     let ran′ = subst (λ (u : Tracker). LentRun u cs rest last) leaves ran in
