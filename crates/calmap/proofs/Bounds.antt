@@ -12,7 +12,7 @@ use Rattle.panel.proofs.Follow.{if-true, and-true}
 use Rattle.panel.proofs.Laws.{and-left, and-right}
 use Rattle.panel.specs.Tests.{if_then_else_}
 use Rattle.panel.specs.declared.refusals.Refusal.the-variants as Refusal
-use Rattle.calmap.specs.Checked.{farthest, squareIn}
+use Rattle.calmap.specs.code.Checked.{farthest, squareIn}
 use Rattle.calmap.specs.Distances.{squared, gapOf}
 use Rattle.calmap.specs.Maps.{line, lineFits, applyOf}
 use Rattle.calmap.specs.Resids.{inSixteenths}

@@ -79,7 +79,7 @@ tenths-over-the-limit : tenthsOf 161283 ≡ 251
 unfolding tenthsOf rootBy digit if_then_else_
 tenths-over-the-limit = refl
 
--- Pairs in use are as many as the shorter list has: 65 raw taps and one target are one pair.
+-- Aims in use are as many as the shorter list has: 65 raw taps and one target are one pair.
 abbrev origin : Tap
 origin = record { x = pos 0; y = pos 0 }
 

@@ -12,7 +12,7 @@ use Rattle.panel.specs.Sizes.{width, height}
 use Rattle.panel.specs.Tests.{if_then_else_, _and_}
 use Rattle.panel.specs.declared.points.Point.{Point}
 use Rattle.panel.specs.declared.refusals.Refusal.the-variants as Refusal
-use Rattle.calmap.specs.Checked.{narrowOf, plusOf, lineOf, nudgeOf, bothFit, mapFits, spotOf, placedOf}
+use Rattle.calmap.specs.code.Checked.{narrowOf, plusOf, lineOf, nudgeOf, bothFit, mapFits, spotOf, placedOf}
 use Rattle.calmap.specs.Maps.{line, lineFits, applyOf}
 use Rattle.calmap.specs.Screening.{nudge, nudgeFits, moved, screenOf}
 use Rattle.calmap.specs.Sizes.{end32, one, half}

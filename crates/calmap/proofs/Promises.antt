@@ -1,6 +1,6 @@
 -- The public calls in document 01's numbers: what each tells for every input, and that its contract leaves no second
 -- answer. Assumes nothing.
-use Prim.Native.Nat.{ℕ, _-_, _^_, _<_, max}
+use Prim.Native.Nat.{ℕ, _-_, _^_, _<_}
 use mathlib.Core.Path.{_≡_, refl, ap, subst, _∙_}
 use mathlib.Core.Bool.{Bool, true, false}
 use mathlib.Core.List.{List, map}
@@ -18,7 +18,7 @@ use Rattle.panel.specs.Tests.{if_then_else_, _and_, _<?_}
 use Rattle.panel.specs.declared.points.Point.{Point}
 use Rattle.calmap.specs.Checks.{none, judged, scaleHolds, allStay, verdictOf, checkOf, checkFirst, toldCheck}
 use Rattle.calmap.specs.Distances.{squared, gapOf, IsTenths, tenthsOf, tenths, inTenths, dist10Of, toldDist10}
-use Rattle.calmap.specs.Held.{heldPoints, heldPairs, residHeld, checkHeld}
+use Rattle.calmap.specs.code.Arrays.{heldPoints, heldPairs, residHeld, checkHeld}
 use Rattle.calmap.specs.Maps.{line, lineFits, spot, applyOf, toldApply}
 use Rattle.calmap.specs.Resids.{Misses, pairsOf, known, wide, missOf, missesOf, largest, spread, spreadBy, residOf, residBy, residFirst, residFirstBy, toldResid}
 use Rattle.calmap.specs.Roots.{IsRoot, rootOf}
@@ -29,8 +29,8 @@ use Rattle.calmap.specs.declared.gaps.Dist10Answer.{Dist10Answer}
 use Rattle.calmap.specs.declared.gaps.Dist10Answer.the-variants as Dist10
 use Rattle.calmap.specs.declared.gaps.Gap.{Gap}
 use Rattle.calmap.specs.declared.gaps.Gap.the-variants.{Squared, Wide}
-use Rattle.calmap.specs.declared.held.Pairs.{Pairs}
-use Rattle.calmap.specs.declared.held.Points.{Points}
+use Rattle.calmap.specs.declared.arrays.Aims.{Aims}
+use Rattle.calmap.specs.declared.arrays.Points.{Points}
 use Rattle.calmap.specs.declared.limits.CheckAnswer.{CheckAnswer}
 use Rattle.calmap.specs.declared.limits.Verdict.the-variants.{Pass, Scale, Shift}
 use Rattle.calmap.specs.declared.mapping.ApplyAnswer.{ApplyAnswer}
@@ -38,7 +38,7 @@ use Rattle.calmap.specs.declared.residuals.ResidAnswer.{ResidAnswer}
 use Rattle.calmap.specs.declared.residuals.Spread.{Spread}
 use Rattle.calmap.specs.declared.screens.ScreenAnswer.{ScreenAnswer}
 use Rattle.calmap.specs.declared.units.Cal.{Cal}
-use Rattle.calmap.specs.declared.units.Pair.{Pair}
+use Rattle.calmap.specs.declared.units.Aim.{Aim}
 use Rattle.calmap.specs.declared.units.Sixteenths.{Sixteenths}
 use Rattle.calmap.specs.declared.units.Tap.{Tap}
 use Rattle.calmap.specs.declared.units.Tenths.{Tenths}
@@ -98,12 +98,12 @@ spread-told : (ms : Misses) → toldResid (spreadBy tenthsOf ms) ≡ toldMisses 
 spread-told (known ds) = refl
 spread-told wide = refl
 
-pub resid-tells : (c : Cal) (ps : List Pair) → toldResid (residOf c ps) ≡ if_then_else_ (longest <? length ps) (tells 4 (spread 0 0)) (toldMisses (missesOf c ps))
+pub resid-tells : (c : Cal) (ps : List Aim) → toldResid (residOf c ps) ≡ if_then_else_ (longest <? length ps) (tells 4 (spread 0 0)) (toldMisses (missesOf c ps))
 unfolding residBy
 resid-tells c ps = if-of toldResid _ _ _ ∙ ap (if_then_else_ (longest <? length ps) (tells 4 (spread 0 0))) (spread-told (missesOf c ps))
 
 -- The same over the first n of an array of 64.
-pub resid-of-tells : (c : Cal) (n : ℕ) (ps : List Pair) → toldResid (residFirst c n ps) ≡ if_then_else_ (longest <? n) (tells 4 (spread 0 0)) (toldResid (residOf c (take n ps)))
+pub resid-of-tells : (c : Cal) (n : ℕ) (ps : List Aim) → toldResid (residFirst c n ps) ≡ if_then_else_ (longest <? n) (tells 4 (spread 0 0)) (toldResid (residOf c (take n ps)))
 unfolding residFirstBy
 resid-of-tells c n ps = if-of toldResid _ _ _
 
@@ -129,9 +129,6 @@ isqrt-unique v = one-answer
 pub gap-unique : (ax ay bx by : Sixteenths) {r s : Gap} → r ≡ gapOf ax ay bx by → s ≡ gapOf ax ay bx by → r ≡ s
 gap-unique ax ay bx by = one-answer
 
-pub larger-unique : (a b : ℕ) {r s : ℕ} → r ≡ max a b → s ≡ max a b → r ≡ s
-larger-unique a b = one-answer
-
 pub dist10-unique : (ax ay bx by : Sixteenths) {r s : Dist10Answer} → r ≡ dist10Of ax ay bx by → s ≡ dist10Of ax ay bx by → r ≡ s
 dist10-unique ax ay bx by = one-answer
 
@@ -142,13 +139,13 @@ module _ (c : Cal) where
   pub screen-unique : (p : Point) {r s : ScreenAnswer} → r ≡ screenOf c p → s ≡ screenOf c p → r ≡ s
   screen-unique p = one-answer
 
-  pub miss-unique : (p : Pair) {r s : Gap} → r ≡ missOf c p → s ≡ missOf c p → r ≡ s
+  pub miss-unique : (p : Aim) {r s : Gap} → r ≡ missOf c p → s ≡ missOf c p → r ≡ s
   miss-unique p = one-answer
 
-  pub resid-of-unique : (n : ℕ) (ps : List Pair) {r s : ResidAnswer} → r ≡ residFirst c n ps → s ≡ residFirst c n ps → r ≡ s
+  pub resid-of-unique : (n : ℕ) (ps : List Aim) {r s : ResidAnswer} → r ≡ residFirst c n ps → s ≡ residFirst c n ps → r ≡ s
   resid-of-unique n ps = one-answer
 
-  pub resid-held-unique : (a : Pairs) {r s : ResidAnswer} → r ≡ residHeld c a → s ≡ residHeld c a → r ≡ s
+  pub resid-held-unique : (a : Aims) {r s : ResidAnswer} → r ≡ residHeld c a → s ≡ residHeld c a → r ≡ s
   resid-held-unique a = one-answer
 
   pub check-of-unique : (n : ℕ) (ps : List Point) {r s : CheckAnswer} → r ≡ checkFirst c n ps → s ≡ checkFirst c n ps → r ≡ s
@@ -159,7 +156,7 @@ module _ (c : Cal) where
 
 -- and of those that take lent lists, which they cannot alter
 module _ (raw tgt : List Tap) where
-  pub pairs-of-unique : {r s : Pairs} → r ≡ heldPairs raw tgt → s ≡ heldPairs raw tgt → r ≡ s
+  pub pairs-of-unique : {r s : Aims} → r ≡ heldPairs raw tgt → s ≡ heldPairs raw tgt → r ≡ s
   pairs-of-unique = one-answer
 
   pub resid-unique : (c : Cal) {r s : ResidAnswer} → r ≡ residOf c (pairsOf raw tgt) → s ≡ residOf c (pairsOf raw tgt) → r ≡ s

@@ -11,7 +11,7 @@ use borrow.Author.Tests.{ltb-true, lt-ltb}
 use Rattle.panel.proofs.Follow.{and-true}
 use Rattle.panel.proofs.Laws.{and-left, and-right}
 use Rattle.panel.specs.Tests.{_and_}
-use Rattle.calmap.specs.Checked.{bothFit, mapFits, nearEnd, shortEnd, fewPixels, fewSteps, slight}
+use Rattle.calmap.specs.code.Checked.{bothFit, mapFits, nearEnd, shortEnd, fewPixels, fewSteps, slight}
 use Rattle.calmap.specs.Maps.{line, lineFits}
 use Rattle.calmap.specs.Sizes.{end16, one}
 use Rattle.calmap.specs.Wide.{in32, in16}

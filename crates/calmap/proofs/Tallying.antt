@@ -17,11 +17,11 @@ use Rattle.calmap.specs.declared.gaps.Gap.the-variants.{Squared, Wide}
 use Rattle.calmap.specs.declared.residuals.ResidAnswer.{ResidAnswer}
 use Rattle.calmap.specs.declared.residuals.ResidAnswer.the-variants.{Answered, Refused}
 use Rattle.calmap.specs.declared.units.Cal.{Cal}
-use Rattle.calmap.specs.declared.units.Pair.{Pair}
+use Rattle.calmap.specs.declared.units.Aim.{Aim}
 use Rattle.calmap.proofs.Firsts.{resid-first}
 use Rattle.calmap.proofs.Walking.{walk-more, walked}
 
-misses-cons : (c : Cal) (p : Pair) (ps : List Pair) → missesOf c (p ∷ ps) ≡ besides (missOf c p) (missesOf c ps)
+misses-cons : (c : Cal) (p : Aim) (ps : List Aim) → missesOf c (p ∷ ps) ≡ besides (missOf c p) (missesOf c ps)
 unfolding missesOf
 misses-cons c p ps = refl
 
@@ -35,7 +35,7 @@ one-more (Squared d2) (known ds) n h = ap suc h
 one-more (Squared d2) wide n h = tt
 one-more Wide ms n h = tt
 
-counted : (c : Cal) (ps : List Pair) → Counts (missesOf c ps) (length ps)
+counted : (c : Cal) (ps : List Aim) → Counts (missesOf c ps) (length ps)
 unfolding missesOf
 counted c [] = refl
 counted c (p ∷ ps) = one-more (missOf c p) (missesOf c ps) (length ps) (counted c ps)
@@ -75,18 +75,18 @@ module _ (rule : Rule) where
   spread-none c = refl
 
   -- no tap at all
-  pub resid-none : (c : Cal) (n : ℕ) (ps : List Pair) → n ≡ 0 → residFirstBy rule c n ps ≡ Answered (spread 0 0)
+  pub resid-none : (c : Cal) (n : ℕ) (ps : List Aim) → n ≡ 0 → residFirstBy rule c n ps ≡ Answered (spread 0 0)
   resid-none c n ps e = resid-first rule c n ps (omega (arith, e)) ∙ ap (λ (k : ℕ). spreadBy rule (missesOf c (take k ps))) e ∙ spread-none c
 
 -- A loop over the first n of an array of taps: the distances from the one at place i on.
 
-abbrev pub missesFrom : Cal → ℕ → List Pair → ℕ → Misses
+abbrev pub missesFrom : Cal → ℕ → List Aim → ℕ → Misses
 missesFrom c n ps i = missesOf c (drop i (take n ps))
 
-abbrev pair0 : Pair
+abbrev pair0 : Aim
 pair0 = record { raw = record { x = pos 0; y = pos 0 }; tgt = record { x = pos 0; y = pos 0 } }
 
-module _ (rule : Rule) (c : Cal) (n : ℕ) (ps : List Pair) (held : n ≤ length ps) where
+module _ (rule : Rule) (c : Cal) (n : ℕ) (ps : List Aim) (held : n ≤ length ps) where
   -- before the first turn
   pub loop-first : 0 < n → n ≤ longest → residFirstBy rule c n ps ≡ spreadFrom rule n 0 0 (missesFrom c n ps 0)
   loop-first some short =
@@ -109,4 +109,4 @@ module _ (rule : Rule) (c : Cal) (n : ℕ) (ps : List Pair) (held : n ≤ length
   -- behind the last
   pub loop-ends : (i s m : ℕ) → i ≡ n → spreadFrom rule n s m (missesFrom c n ps i) ≡ Answered (spread (s / n) m)
   loop-ends i s m e =
-      ap (λ (k : ℕ). spreadFrom rule n s m (missesFrom c n ps k)) e ∙ ap (λ (qs : List Pair). spreadFrom rule n s m (missesOf c qs)) (walked ps n held) ∙ from-last rule c n s m
+      ap (λ (k : ℕ). spreadFrom rule n s m (missesFrom c n ps k)) e ∙ ap (λ (qs : List Aim). spreadFrom rule n s m (missesOf c qs)) (walked ps n held) ∙ from-last rule c n s m

@@ -21,12 +21,12 @@ use Rattle.calmap.specs.declared.residuals.ResidAnswer.{ResidAnswer}
 use Rattle.calmap.specs.declared.residuals.ResidAnswer.the-variants.{Answered, Refused}
 use Rattle.calmap.specs.declared.residuals.Spread.{Spread}
 use Rattle.calmap.specs.declared.units.Cal.{Cal}
-use Rattle.calmap.specs.declared.units.Pair.{Pair}
+use Rattle.calmap.specs.declared.units.Aim.{Aim}
 use Rattle.calmap.specs.declared.units.Sixteenths.{Sixteenths}
 use Rattle.calmap.specs.declared.units.Tap.{Tap}
 
 -- raw taps and their targets, to the shorter length
-unfoldable pub pairsOf : List Tap → List Tap → List Pair
+unfoldable pub pairsOf : List Tap → List Tap → List Aim
 pairsOf [] ts = []
 pairsOf (r ∷ rs) [] = []
 pairsOf (r ∷ rs) (t ∷ ts) = record { raw = r; tgt = t } ∷ pairsOf rs ts
@@ -40,7 +40,7 @@ abbrev pub farOff : ApplyAnswer → Tap → Gap
 farOff (Apply.Answered s) t = gapOf (s .0) (s .1) (inSixteenths (t .x)) (inSixteenths (t .y))
 farOff (Apply.Refused r) t = Wide
 
-unfoldable pub missOf : Cal → Pair → Gap
+unfoldable pub missOf : Cal → Aim → Gap
 missOf c p = farOff (applyOf c (p .raw .x) (p .raw .y)) (p .tgt)
 
 -- the squared distances of some taps, if each has one
@@ -53,7 +53,7 @@ besides (Squared d2) (known ds) = known (d2 ∷ ds)
 besides (Squared d2) wide = wide
 besides Wide ms = wide
 
-unfoldable pub missesOf : Cal → List Pair → Misses
+unfoldable pub missesOf : Cal → List Aim → Misses
 missesOf c [] = known []
 missesOf c (p ∷ ps) = besides (missOf c p) (missesOf c ps)
 
@@ -70,18 +70,18 @@ abbrev pub spreadBy : Rule → Misses → ResidAnswer
 spreadBy rule (known ds) = Answered (spread (mean (map rule ds)) (largest (map rule ds)))
 spreadBy rule wide = Refused Refusal.Wide
 
-unfoldable pub residBy : Rule → Cal → List Pair → ResidAnswer
+unfoldable pub residBy : Rule → Cal → List Aim → ResidAnswer
 residBy rule c ps = if longest <? length ps then Refused Refusal.Long else spreadBy rule (missesOf c ps)
 
 -- the first n of an array that holds 64
-unfoldable pub residFirstBy : Rule → Cal → ℕ → List Pair → ResidAnswer
+unfoldable pub residFirstBy : Rule → Cal → ℕ → List Aim → ResidAnswer
 residFirstBy rule c n ps = if longest <? n then Refused Refusal.Long else residBy rule c (take n ps)
 
 -- by the rule of the calls
-abbrev pub residOf : Cal → List Pair → ResidAnswer
+abbrev pub residOf : Cal → List Aim → ResidAnswer
 residOf = residBy tenthsOf
 
-abbrev pub residFirst : Cal → ℕ → List Pair → ResidAnswer
+abbrev pub residFirst : Cal → ℕ → List Aim → ResidAnswer
 residFirst = residFirstBy tenthsOf
 
 abbrev pub toldResid : ResidAnswer → Told Spread

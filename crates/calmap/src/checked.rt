@@ -4,7 +4,7 @@ ghost use mathlib.Core.Bool.{true};
 ghost use mathlib.Core.Path.{_≡_};
 ghost use lib.IntN.{_+ℤ_, _-ℤ_, _*ℤ_};
 ghost use Rattle.calmap.specs.Wide.{in32};
-ghost use Rattle.calmap.specs.Checked.{narrowOf, plusOf};
+ghost use Rattle.calmap.specs.code.Checked.{narrowOf, plusOf};
 ghost use Rattle.calmap.specs.declared.checked.Narrow.the-variants.{In};
 use crate::units::Q16;
 use crate::units::Sixteenths;

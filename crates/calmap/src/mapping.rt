@@ -3,7 +3,7 @@ ghost use mathlib.Core.Path.{_≡_};
 ghost use mathlib.Core.Bool.{true};
 ghost use Rattle.calmap.specs.Wide.{in16};
 ghost use Rattle.calmap.specs.Maps.{line, lineFits, applyOf};
-ghost use Rattle.calmap.specs.Checked.{lineOf, bothFit, mapFits, spotOf, fewPixels, fewSteps, slight};
+ghost use Rattle.calmap.specs.code.Checked.{lineOf, bothFit, mapFits, spotOf, fewPixels, fewSteps, slight};
 use crate::checked;
 use crate::checked::Narrow;
 use crate::units::Cal;

@@ -1,16 +1,16 @@
 // How far taps land from their targets, through a calibration.
 ghost use mathlib.Core.Path.{_≡_};
-ghost use Prim.Native.Nat.{_≤_, max};
+ghost use Prim.Native.Nat.{_≤_};
 ghost use Rattle.calmap.specs.Resids.{missOf, residFirst};
-ghost use Rattle.calmap.specs.Checked.{farthest, squareIn};
+ghost use Rattle.calmap.specs.code.Checked.{farthest, squareIn};
 use crate::gaps;
 use crate::gaps::Gap;
 use crate::mapping;
 use crate::mapping::ApplyAnswer;
 use crate::pixels;
+use crate::units::Aim;
 use crate::units::Cal;
 use crate::units::MAX_TAPS;
-use crate::units::Pair;
 use crate::units::Tenths;
 use panel::Refusal;
 
@@ -25,16 +25,9 @@ pub enum ResidAnswer {
     Refused(Refusal),
 }
 
-// The larger of two numbers.
-pub fn larger(a: u32, b: u32) -> u32
-    ensures { λ r. ⌜ r ≡ max a b ⌝ }
-{
-    if a <= b { b } else { a }
-}
-
 // How far a tap lands from its target, squared. It lands within 2^19 sixteenths of 0 each way, and its target is there
 // too.
-pub fn miss(c: Cal, p: Pair) -> Gap
+pub fn miss(c: Cal, p: Aim) -> Gap
     ensures { λ r. ⌜ (r ≡ missOf c p) × (squareIn r ≤ farthest) ⌝ }
 {
     let raw = p.raw;
@@ -48,7 +41,7 @@ pub fn miss(c: Cal, p: Pair) -> Gap
 
 // Mean and largest distance of the first n taps from their targets, through c. A distance is at most 1310720 tenths, so
 // that 64 of them fit a u32.
-pub fn resid_of(c: Cal, pairs: [Pair; MAX_TAPS], n: usize) -> ResidAnswer
+pub fn resid_of(c: Cal, pairs: [Aim; MAX_TAPS], n: usize) -> ResidAnswer
     ensures { λ r. ⌜ r ≡ residFirst c n pairs ⌝ }
 {
     if MAX_TAPS < n {
@@ -70,7 +63,7 @@ pub fn resid_of(c: Cal, pairs: [Pair; MAX_TAPS], n: usize) -> ResidAnswer
         };
         let d = gaps::in_tenths(d2);
         sum += d.0;
-        most = larger(most, d.0);
+        most = panel::larger(most, d.0);
         i += 1;
     }
     ResidAnswer::Answered(Spread {

@@ -4,7 +4,7 @@ ghost use lib.IntN.{pos, _+ℤ_};
 ghost use Rattle.calmap.specs.Sizes.{sixteen};
 ghost use Rattle.calmap.specs.Wide.{down};
 ghost use Rattle.calmap.specs.Screening.{clamp, moved, screenOf};
-ghost use Rattle.calmap.specs.Checked.{nudgeOf, placedOf};
+ghost use Rattle.calmap.specs.code.Checked.{nudgeOf, placedOf};
 use crate::checked;
 use crate::checked::Narrow;
 use crate::pixels;

@@ -5,7 +5,7 @@ use mathlib.Core.Path.{_≡_, refl, sym, ap, _∙_}
 use native.Mathlib.Nat.{le-refl, le-trans, lt-of-lt-of-le}
 use native.Mathlib.Omega.{arith}
 use Rattle.panel.specs.Tests.{if_then_else_}
-use Rattle.calmap.specs.Checked.{farthest, farthestTenths}
+use Rattle.calmap.specs.code.Checked.{farthest, farthestTenths}
 use Rattle.calmap.specs.Distances.{tenthsOf}
 use Rattle.calmap.specs.Roots.{digit, rootBy, rootOf}
 use Rattle.calmap.specs.Sizes.{sixteenthsIn}

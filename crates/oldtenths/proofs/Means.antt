@@ -25,7 +25,7 @@ use Rattle.calmap.specs.declared.mapping.ApplyAnswer.the-variants as Apply
 use Rattle.calmap.specs.declared.residuals.ResidAnswer.the-variants.{Answered, Refused}
 use Rattle.calmap.specs.declared.residuals.Spread.{Spread}
 use Rattle.calmap.specs.declared.units.Cal.{Cal}
-use Rattle.calmap.specs.declared.units.Pair.{Pair}
+use Rattle.calmap.specs.declared.units.Aim.{Aim}
 use Rattle.calmap.specs.declared.units.Tap.{Tap}
 use Rattle.oldtenths.specs.OldTenths.{oldTenthsOf}
 use Rattle.oldtenths.proofs.Laws.{old-at-most, one-more-at-most}
@@ -54,7 +54,7 @@ far-reached (Apply.Answered s) t d2 e =
     gap-reached _ (squared dx dy) d2 (λ h. squared-reach dx dy (and-left _ _ h) (and-right _ _ h)) e
 far-reached (Apply.Refused r) t d2 e = let z : _≡_ {A = ℕ} 0 1 = cc in absurd (omega arith)
 
-miss-reached : (c : Cal) (p : Pair) (d2 : ℕ) → missOf c p ≡ Squared d2 → d2 < 2 ^ 64
+miss-reached : (c : Cal) (p : Aim) (d2 : ℕ) → missOf c p ≡ Squared d2 → d2 < 2 ^ 64
 unfolding missOf
 miss-reached c p d2 e = far-reached (applyOf c (p .raw .x) (p .raw .y)) (p .tgt) d2 e
 
@@ -67,7 +67,7 @@ one-reached (Squared d2) (known ds) f r = more (f d2 refl) r
 one-reached (Squared d2) wide f r = tt
 one-reached Wide ms f r = tt
 
-misses-reached : (c : Cal) (ps : List Pair) → AllReached (missesOf c ps)
+misses-reached : (c : Cal) (ps : List Aim) → AllReached (missesOf c ps)
 unfolding missesOf
 misses-reached c [] = none
 misses-reached c (p ∷ ps) = one-reached (missOf c p) (missesOf c ps) (miss-reached c p) (misses-reached c ps)
@@ -126,6 +126,6 @@ apart false (known ds) s t r e f =
     subst (λ (y : Spread). OneMore (mean old) (y .mean .0) × OneMore (largest old) (y .max .0)) q (mean-told r, largest-told r))
 apart false wide s t r e f = never Refusal.Wide s e
 
-pub resid-apart : (c : Cal) (ps : List Pair) (s t : Spread) → residBy oldTenthsOf c ps ≡ Answered s → residOf c ps ≡ Answered t → OneMore (s .mean .0) (t .mean .0) × OneMore (s .max .0) (t .max .0)
+pub resid-apart : (c : Cal) (ps : List Aim) (s t : Spread) → residBy oldTenthsOf c ps ≡ Answered s → residOf c ps ≡ Answered t → OneMore (s .mean .0) (t .mean .0) × OneMore (s .max .0) (t .max .0)
 unfolding residBy
 resid-apart c ps s t e f = apart (longest <? length ps) (missesOf c ps) s t (misses-reached c ps) e f

@@ -3,17 +3,17 @@ ghost use mathlib.Core.Path.{_≡_};
 ghost use Rattle.calmap.specs.Resids.{residFirstBy};
 ghost use Rattle.oldtenths.specs.OldTenths.{oldTenthsOf};
 use crate::gaps;
+use calmap::Aim;
 use calmap::Cal;
 use calmap::Gap;
 use calmap::MAX_TAPS;
-use calmap::Pair;
 use calmap::ResidAnswer;
 use calmap::Spread;
 use calmap::Tenths;
 use panel::Refusal;
 
 // `resid` of the first n taps.
-pub fn old_resid_of(c: Cal, pairs: [Pair; MAX_TAPS], n: usize) -> ResidAnswer
+pub fn old_resid_of(c: Cal, pairs: [Aim; MAX_TAPS], n: usize) -> ResidAnswer
     ensures { λ r. ⌜ r ≡ residFirstBy oldTenthsOf c n pairs ⌝ }
 {
     if MAX_TAPS < n {
@@ -35,7 +35,7 @@ pub fn old_resid_of(c: Cal, pairs: [Pair; MAX_TAPS], n: usize) -> ResidAnswer
         };
         let d = gaps::in_old_tenths(d2);
         sum += d.0;
-        most = calmap::larger(most, d.0);
+        most = panel::larger(most, d.0);
         i += 1;
     }
     ResidAnswer::Answered(Spread {

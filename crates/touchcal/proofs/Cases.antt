@@ -20,7 +20,7 @@ use Rattle.calmap.specs.Resids.{missOf, missesOf, largest, residBy}
 use Rattle.calmap.specs.Checks.{mild, scaleHolds, near, stays, allStay, verdictOf, checkOf}
 use Rattle.calmap.specs.declared.units.Cal.{Cal}
 use Rattle.calmap.specs.declared.units.Q16.{Q16}
-use Rattle.calmap.specs.declared.units.Pair.{Pair}
+use Rattle.calmap.specs.declared.units.Aim.{Aim}
 use Rattle.calmap.specs.declared.limits.Verdict.the-variants.{Pass, Shift, Resid}
 use Rattle.touchcal.specs.Sizes.{zero32, one32}
 use Rattle.touchcal.specs.Floats.{inReach, halfAway, nearestStep, q16Of, outOf, toF32Of, identity, inSteps, stepsOf}
@@ -31,16 +31,16 @@ use Rattle.touchcal.specs.declared.floats.Q16Answer.the-variants as Q16A
 use Rattle.touchcal.specs.declared.fitting.FitAnswer.{FitAnswer}
 use Rattle.touchcal.specs.declared.fitting.FitAnswer.the-variants.{Answered}
 
-abbrev corner : ℕ → ℕ → ℕ → Pair
+abbrev corner : ℕ → ℕ → ℕ → Aim
 corner k x y = record { raw = record { x = pos x; y = pos y }; tgt = record { x = pos (x + k); y = pos y } }
 
-abbrev pub corners : ℕ → List Pair
+abbrev pub corners : ℕ → List Aim
 corners k = corner k 0 0 ∷ corner k 100 0 ∷ corner k 0 100 ∷ corner k 100 100 ∷ []
 
 abbrev pub target : List Point
 target = record { x = 240; y = 160 } ∷ []
 
-abbrev pair : ℤ → ℤ → ℤ → ℤ → Pair
+abbrev pair : ℤ → ℤ → ℤ → ℤ → Aim
 pair x y u v = record { raw = record { x = x; y = y }; tgt = record { x = u; y = v } }
 
 -- only c2
@@ -61,7 +61,7 @@ corners-40 = refl
 -- lies half way, so that each tap is 25 px and 2 px from its target, 161,024 as a squared distance in sixteenths and 250 tenths; or 25 px
 -- and 2 1/2 px, 161,600 and 251 tenths, of which the rule before request [6] made 250
 
-abbrev pub opposite : ℕ → ℕ → List Pair
+abbrev pub opposite : ℕ → ℕ → List Aim
 opposite x y =
     pair (pos 0) (pos 0) (pos x) (pos y)
     ∷ pair (pos 100) (pos 0) (pos 100) (pos 0)
@@ -88,10 +88,10 @@ over-the-limit = refl
 abbrev off : List Point
 off = record { x = 480; y = 0 } ∷ []
 
-abbrev same : ℕ → ℕ → Pair
+abbrev same : ℕ → ℕ → Aim
 same x y = pair (pos x) (pos y) (pos x) (pos y)
 
-abbrev onto : ℤ → ℤ → ℤ → ℤ → ℤ → ℤ → List Pair
+abbrev onto : ℤ → ℤ → ℤ → ℤ → ℤ → ℤ → List Aim
 onto u v u1 v1 u2 v2 = pair (pos 0) (pos 0) u v ∷ pair (pos 2) (pos 0) u1 v1 ∷ pair (pos 0) (pos 2) u2 v2 ∷ []
 
 abbrev whyTold : FitAnswer → ℕ × ℕ
@@ -132,16 +132,16 @@ refusals = refl
 -- ---- the smallest fits found with a coefficient beyond its steps, a to f, and c with f: three taps nearly on one line, all targets (0,0) but that of
 -- the one between. One short of it, before a and before c, there is a fit
 
-abbrev between : (x0 y0 x1 y1 x2 y2 : ℤ) → ℕ → ℕ → List Pair
+abbrev between : (x0 y0 x1 y1 x2 y2 : ℤ) → ℕ → ℕ → List Aim
 between x0 y0 x1 y1 x2 y2 u v = pair x0 y0 (pos 0) (pos 0) ∷ pair x1 y1 (pos u) (pos v) ∷ pair x2 y2 (pos 0) (pos 0) ∷ []
 
-abbrev upright : ℕ → ℕ → List Pair
+abbrev upright : ℕ → ℕ → List Aim
 upright = between (negsuc 0) (pos 19) (pos 0) (pos 0) (pos 1) (negsuc 16)
 
-abbrev level : ℕ → ℕ → List Pair
+abbrev level : ℕ → ℕ → List Aim
 level = between (pos 19) (negsuc 0) (pos 0) (pos 0) (negsuc 16) (pos 1)
 
-abbrev aside : ℕ → ℕ → List Pair
+abbrev aside : ℕ → ℕ → List Aim
 aside = between (pos 25) (negsuc 8) (pos 26) (pos 0) (pos 27) (pos 8)
 
 pub steepest : map (λ ps. whyTold (fitOf ps target))

@@ -4,7 +4,7 @@ use lib.IntN.{ℤ, _+ℤ_}
 use mir.Syntax.{w32}
 use mir.Val.{toZ, ofZ}
 use borrow.Author.Needs.{needs}
-use Rattle.calmap.specs.Checked.{narrowOf, plusOf}
+use Rattle.calmap.specs.code.Checked.{narrowOf, plusOf}
 use Rattle.calmap.proofs.checked.plus.Statement.{statement}
 use Rattle.calmap.proofs.checked.plus.Tie as tie
 

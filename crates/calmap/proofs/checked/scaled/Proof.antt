@@ -4,7 +4,7 @@ use lib.IntN.{_*ℤ_}
 use mir.Syntax.{w32}
 use mir.Val.{toZ, ofZ}
 use borrow.Author.Needs.{needs}
-use Rattle.calmap.specs.Checked.{narrowOf}
+use Rattle.calmap.specs.code.Checked.{narrowOf}
 use Rattle.calmap.proofs.Signed.{plain}
 use Rattle.calmap.proofs.checked.scaled.Statement.{statement}
 use Rattle.calmap.proofs.checked.scaled.Tie as tie

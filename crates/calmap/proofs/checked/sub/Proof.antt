@@ -5,7 +5,7 @@ use mir.Syntax.{w32, w64}
 use mir.Val.{toZ, ofZ, SFits}
 use mir.ValLaws.{toZ-ofZ}
 use borrow.Author.Needs.{needs}
-use Rattle.calmap.specs.Checked.{narrowOf}
+use Rattle.calmap.specs.code.Checked.{narrowOf}
 use Rattle.panel.proofs.Squares.{widened, read-twice}
 use Rattle.calmap.proofs.Signed.{difference-fits}
 use Rattle.calmap.proofs.checked.sub.Statement.{statement}

@@ -5,7 +5,7 @@ use mir.Syntax.{w32}
 use mir.Val.{toZ, ofZ, SFits}
 use borrow.Author.Needs.{needs}
 use Rattle.panel.proofs.Follow.{and-true, and-false}
-use Rattle.calmap.specs.Checked.{mapFits, spotOf}
+use Rattle.calmap.specs.code.Checked.{mapFits, spotOf}
 use Rattle.calmap.specs.Checks.{near, stays}
 use Rattle.calmap.proofs.Chains.{applied, not-applied}
 use Rattle.calmap.proofs.Signed.{plain}

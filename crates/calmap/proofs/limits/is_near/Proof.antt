@@ -8,7 +8,7 @@ use lib.Signed.{ltZ, leZ}
 use mir.Syntax.{w32}
 use mir.Val.{toZ, ofZ, SFits}
 use borrow.Author.Needs.{needs}
-use Rattle.calmap.specs.Checked.{narrowOf}
+use Rattle.calmap.specs.code.Checked.{narrowOf}
 use Rattle.calmap.specs.Checks.{near}
 use Rattle.calmap.specs.Resids.{inSixteenths}
 use Rattle.calmap.specs.Sizes.{shiftLimit}

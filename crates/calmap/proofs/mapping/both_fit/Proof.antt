@@ -2,7 +2,7 @@
 use mathlib.Core.Path.{_≡_, sym, ap, _∙_}
 use borrow.Author.Needs.{needs}
 use Rattle.panel.proofs.Follow.{and-true, and-false}
-use Rattle.calmap.specs.Checked.{bothFit}
+use Rattle.calmap.specs.code.Checked.{bothFit}
 use Rattle.calmap.specs.Maps.{lineFits}
 use Rattle.calmap.specs.Wide.{in16}
 use Rattle.calmap.proofs.Signed.{plain}

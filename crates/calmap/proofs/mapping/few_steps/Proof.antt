@@ -7,7 +7,7 @@ use mir.Syntax.{w32}
 use mir.Val.{toZ, ofZ}
 use borrow.Author.Needs.{needs}
 use borrow.Author.Tests.{le-ltb}
-use Rattle.calmap.specs.Checked.{fewSteps}
+use Rattle.calmap.specs.code.Checked.{fewSteps}
 use Rattle.calmap.proofs.Signed.{below-low, from-low}
 use Rattle.calmap.proofs.mapping.few_steps.Statement.{statement}
 use Rattle.calmap.proofs.mapping.few_steps.Tie as tie

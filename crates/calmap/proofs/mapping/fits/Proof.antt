@@ -1,7 +1,7 @@
 -- `calmap::mapping::fits` meets its contract. Assumes nothing.
 use mathlib.Core.Path.{sym, ap, _∙_}
 use borrow.Author.Needs.{needs}
-use Rattle.calmap.specs.Checked.{bothFit, mapFits, fewPixels}
+use Rattle.calmap.specs.code.Checked.{bothFit, mapFits, fewPixels}
 use Rattle.calmap.proofs.Signed.{plain}
 use Rattle.calmap.proofs.Slight.{slight-fits}
 use Rattle.calmap.proofs.mapping.fits.Statement.{statement}

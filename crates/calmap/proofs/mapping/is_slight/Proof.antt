@@ -5,7 +5,7 @@ use mir.Syntax.{w32}
 use mir.Val.{toZ, ofZ}
 use borrow.Author.Needs.{needs}
 use Rattle.panel.proofs.Follow.{both, joined}
-use Rattle.calmap.specs.Checked.{slight}
+use Rattle.calmap.specs.code.Checked.{slight}
 use Rattle.calmap.specs.Wide.{in16}
 use Rattle.calmap.proofs.mapping.is_slight.Statement.{statement}
 use Rattle.calmap.proofs.mapping.is_slight.Tie as tie

@@ -2,7 +2,7 @@
 use mathlib.Core.Path.{ap, _∙_}
 use lib.IntN.{ℤ, pos, _*ℤ_}
 use borrow.Author.Needs.{needs}
-use Rattle.calmap.specs.Checked.{narrowOf, plusOf}
+use Rattle.calmap.specs.code.Checked.{narrowOf, plusOf}
 use Rattle.calmap.specs.Sizes.{one}
 use Rattle.calmap.proofs.Chains.{line-chain}
 use Rattle.calmap.proofs.Signed.{plain}

@@ -3,7 +3,7 @@ use mathlib.Core.Path.{ap, _∙_}
 use mir.Syntax.{w32}
 use mir.Val.{SFits}
 use borrow.Author.Needs.{needs}
-use Rattle.calmap.specs.Checked.{spotOf}
+use Rattle.calmap.specs.code.Checked.{spotOf}
 use Rattle.calmap.specs.Maps.{line, lineFits, spot}
 use Rattle.calmap.specs.Sizes.{twelve}
 use Rattle.calmap.specs.Wide.{down}

@@ -7,7 +7,7 @@ use mir.Syntax.{w16, w32}
 use mir.Val.{toZ, ofZ, SFits}
 use mir.ValLaws.{toZ-ofZ}
 use borrow.Author.Needs.{needs}
-use Rattle.calmap.specs.Checked.{farthest, squareIn}
+use Rattle.calmap.specs.code.Checked.{farthest, squareIn}
 use Rattle.calmap.specs.Distances.{gapOf}
 use Rattle.calmap.specs.Maps.{applyOf}
 use Rattle.calmap.specs.Resids.{inSixteenths, missOf}

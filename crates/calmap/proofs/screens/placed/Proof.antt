@@ -6,7 +6,7 @@ use mir.Syntax.{w32}
 use mir.Val.{SFits}
 use borrow.Author.Needs.{needs}
 use Rattle.panel.specs.Sizes.{width, height}
-use Rattle.calmap.specs.Checked.{placedOf}
+use Rattle.calmap.specs.code.Checked.{placedOf}
 use Rattle.calmap.specs.Screening.{moved}
 use Rattle.calmap.specs.declared.screens.ScreenAnswer.the-variants.{Answered}
 use Rattle.calmap.proofs.Signed.{plain}

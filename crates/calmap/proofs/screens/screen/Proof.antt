@@ -3,7 +3,7 @@ use mathlib.Core.Path.{_∙_}
 use mir.Syntax.{w32}
 use mir.Val.{SFits}
 use borrow.Author.Needs.{needs}
-use Rattle.calmap.specs.Checked.{nudgeOf, placedOf}
+use Rattle.calmap.specs.code.Checked.{nudgeOf, placedOf}
 use Rattle.calmap.proofs.Chains.{screen-chain}
 use Rattle.calmap.proofs.Signed.{plain}
 use Rattle.calmap.proofs.screens.screen.Statement.{statement}

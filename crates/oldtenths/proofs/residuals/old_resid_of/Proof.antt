@@ -5,7 +5,7 @@ use mathlib.Core.Path.{_≡_, sym, ap, subst, _∙_}
 use native.Mathlib.Omega.{arith}
 use lib.ListN.{length}
 use borrow.Author.Needs.{needs}
-use Rattle.calmap.specs.Checked.{farthest, farthestTenths, squareIn}
+use Rattle.calmap.specs.code.Checked.{farthest, farthestTenths, squareIn}
 use Rattle.calmap.specs.Resids.{residFirstBy}
 use Rattle.calmap.specs.declared.gaps.Gap.{Gap}
 use Rattle.calmap.specs.declared.units.Tenths.{Tenths}
