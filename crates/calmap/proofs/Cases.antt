@@ -12,11 +12,12 @@ use Rattle.panel.specs.Tests.{if_then_else_, _and_}
 use Rattle.panel.specs.declared.points.Point.{Point}
 use Rattle.panel.specs.declared.refusals.Refusal.the-variants as Refusal
 use Rattle.calmap.specs.Checks.{mild, scaleHolds, stays, allStay, verdictOf, checkOf}
-use Rattle.calmap.specs.Distances.{squared, gapOf, tenthsOf, tenths, dist10Of}
-use Rattle.calmap.specs.Maps.{line, lineFits, sixteenths, applyOf}
+use Rattle.calmap.specs.Distances.{squared, gapOf, tenthsOf, dist10Of}
+use Rattle.calmap.specs.Maps.{line, lineFits, applyOf}
 use Rattle.calmap.specs.Resids.{pairsOf, missOf, missesOf, largest, spread, residBy, residOf}
 use Rattle.calmap.specs.Roots.{digit, rootBy, rootOf}
 use Rattle.calmap.specs.Screening.{nudge, nudgeFits, moved, screenOf}
+use Rattle.calmap.specs.Units.{steps, sixteenths, tenths}
 use Rattle.calmap.specs.Wide.{in32, in16, down}
 use Rattle.calmap.specs.declared.gaps.Dist10Answer.the-variants as Dist10
 use Rattle.calmap.specs.declared.limits.CheckAnswer.the-variants as Check
@@ -25,14 +26,10 @@ use Rattle.calmap.specs.declared.mapping.ApplyAnswer.the-variants as App
 use Rattle.calmap.specs.declared.residuals.ResidAnswer.the-variants as Resid
 use Rattle.calmap.specs.declared.screens.ScreenAnswer.the-variants as Screen
 use Rattle.calmap.specs.declared.units.Cal.{Cal}
-use Rattle.calmap.specs.declared.units.Q16.{Q16}
 use Rattle.calmap.specs.declared.units.Tap.{Tap}
 
-abbrev q : ℤ → Q16
-q z = record { 0 = z }
-
 abbrev cal : ℤ → ℤ → ℤ → Cal
-cal a b c = record { c0 = q a; c1 = q b; c2 = q c; c3 = q (pos 0); c4 = q (pos 0); c5 = q (pos 0) }
+cal a b c = record { c0 = steps a; c1 = steps b; c2 = steps c; c3 = steps (pos 0); c4 = steps (pos 0); c5 = steps (pos 0) }
 
 abbrev at : ℕ → ℕ → Point
 at x y = record { x = x; y = y }

@@ -10,11 +10,13 @@ use borrow.Author.Tests.{ltb-true}
 use Rattle.calmap.specs.Distances.{square, tenthsOf}
 use Rattle.calmap.specs.Maps.{applyOf}
 use Rattle.calmap.specs.Roots.{rootOf}
-use Rattle.calmap.specs.Sizes.{sixteen, sixteenthsIn, hundred}
+use Rattle.calmap.specs.Sizes.{sixteenthsIn, hundred}
+use Rattle.calmap.specs.Units.{stepsFit, downSixteen}
 use Rattle.calmap.specs.Wide.{in32, down}
 use Rattle.calmap.specs.declared.mapping.ApplyAnswer.the-variants.{Answered}
 use Rattle.calmap.specs.declared.mapping.Spot.{Spot}
 use Rattle.calmap.specs.declared.units.Cal.{Cal}
+use Rattle.calmap.specs.declared.units.Q16.{Q16}
 use Rattle.calmap.proofs.Bounds as Bounds
 use Rattle.calmap.proofs.Floors as Floors
 use Rattle.calmap.proofs.Rooted as Rooted
@@ -79,9 +81,9 @@ down-above places z = Floors.down-above places z
 
 -- `screen` adds to a coordinate of 16 bits what is left of an i32, shifted down sixteen: that is in i32, so there is no
 -- third way to be WIDE.
-pub moved-in32 : (v : ℕ) (s : ℤ) → v < 65536 → in32 s ≡ true → in32 (pos v +ℤ down sixteen s) ≡ true
+pub moved-in32 : (v : ℕ) (s : Q16) → v < 65536 → stepsFit s ≡ true → in32 (pos v +ℤ downSixteen s) ≡ true
 unfolding in32
-moved-in32 v s hv hs = in32-yes (pos v +ℤ down sixteen s) (Floors.moved-fits v s hv (ltb-true _ _ hs))
+moved-in32 v s hv hs = in32-yes (pos v +ℤ downSixteen s) (Floors.moved-fits v s hv (ltb-true _ _ hs))
 
 -- Where a point lands: within 19 bits each way. So the distances of `resid` fit, and so does a target's shift in `check`.
 pub lands : (c : Cal) (x y : ℤ) (s : Spot) → applyOf c x y ≡ Answered s → Bounds.Lands s

@@ -5,7 +5,7 @@ use mathlib.Core.Path.{_≡_, refl, ap, subst, _∙_}
 use mathlib.Core.Bool.{Bool, true, false}
 use mathlib.Core.List.{List, map}
 use native.Mathlib.Omega.{arith}
-use lib.IntN.{ℤ, pos, _-ℤ_}
+use lib.IntN.{ℤ, pos}
 use lib.ListN.{length, take}
 use Rattle.panel.proofs.Follow.{if-of}
 use Rattle.panel.proofs.Laws.{and-left, and-right}
@@ -17,14 +17,15 @@ use Rattle.panel.specs.Sizes.{width, height}
 use Rattle.panel.specs.Tests.{if_then_else_, _and_, _<?_}
 use Rattle.panel.specs.declared.points.Point.{Point}
 use Rattle.calmap.specs.Checks.{none, judged, scaleHolds, allStay, verdictOf, checkOf, checkFirst, toldCheck}
-use Rattle.calmap.specs.Distances.{squared, gapOf, IsTenths, tenthsOf, tenths, inTenths, dist10Of, toldDist10}
+use Rattle.calmap.specs.Distances.{squared, gapOf, IsTenths, tenthsOf, inTenths, dist10Of, toldDist10}
 use Rattle.calmap.specs.code.Arrays.{heldPoints, heldPairs, residHeld, checkHeld}
 use Rattle.calmap.specs.Maps.{line, lineFits, spot, applyOf, toldApply}
 use Rattle.calmap.specs.Resids.{Misses, pairsOf, known, wide, missOf, missesOf, largest, spread, spreadBy, residOf, residBy, residFirst, residFirstBy, toldResid}
 use Rattle.calmap.specs.Roots.{IsRoot, rootOf}
 use Rattle.calmap.specs.Screening.{nudge, nudgeFits, moved, screenOf, toldScreen}
-use Rattle.calmap.specs.Sizes.{longest, twelve}
-use Rattle.calmap.specs.Wide.{in32, in16, down}
+use Rattle.calmap.specs.Sizes.{longest}
+use Rattle.calmap.specs.Units.{sixteenths, tenths, downTwelve, _⊟_, sixteenthsFit}
+use Rattle.calmap.specs.Wide.{in16}
 use Rattle.calmap.specs.declared.gaps.Dist10Answer.{Dist10Answer}
 use Rattle.calmap.specs.declared.gaps.Dist10Answer.the-variants as Dist10
 use Rattle.calmap.specs.declared.gaps.Gap.{Gap}
@@ -52,8 +53,8 @@ tells n a = record { number = n; value = a }
 -- WIDE, number 3 and zeros, exactly if x or y is outside i16, or a product or partial sum leaves i32.
 pub apply16-tells : (c : Cal) (x y : ℤ) → toldApply (applyOf c x y)
     ≡ if_then_else_ (_and_ (in16 x) (_and_ (in16 y) (_and_ (lineFits x (c .c0) (c .c1) (c .c2) x y) (lineFits y (c .c3) (c .c4) (c .c5) x y))))
-    (tells 0 (spot (down twelve (line x (c .c0) (c .c1) (c .c2) x y)) (down twelve (line y (c .c3) (c .c4) (c .c5) x y))))
-    (tells 3 (spot (pos 0) (pos 0)))
+    (tells 0 (spot (downTwelve (line x (c .c0) (c .c1) (c .c2) x y)) (downTwelve (line y (c .c3) (c .c4) (c .c5) x y))))
+    (tells 3 (spot (sixteenths (pos 0)) (sixteenths (pos 0))))
 unfolding applyOf
 apply16-tells c x y = if-of toldApply _ _ _
 
@@ -71,7 +72,7 @@ isqrt-tells v h = root-is v h
 
 -- WIDE exactly if a coordinate difference leaves i32.
 pub dist10-tells : (ax ay bx by : Sixteenths) → toldDist10 (dist10Of ax ay bx by)
-    ≡ if_then_else_ (_and_ (in32 (ax .0 -ℤ bx .0)) (in32 (ay .0 -ℤ by .0))) (tells 0 (tenths (tenthsOf (squared (ax .0 -ℤ bx .0) (ay .0 -ℤ by .0))))) (tells 3 (tenths 0))
+    ≡ if_then_else_ (_and_ (sixteenthsFit (ax ⊟ bx)) (sixteenthsFit (ay ⊟ by))) (tells 0 (tenths (tenthsOf (squared (ax ⊟ bx) (ay ⊟ by))))) (tells 3 (tenths 0))
 unfolding gapOf
 dist10-tells ax ay bx by = if-of (λ g. toldDist10 (inTenths tenthsOf g)) _ _ _
 
@@ -82,11 +83,11 @@ unfolding if_then_else_
 measured true d2 t f e = let q : tenths (tenthsOf d2) ≡ t = cc in subst (λ (x : Tenths). IsTenths (x .0) d2) q (tenths-are d2 (f refl))
 measured false d2 t f e = let z : _≡_ {A = ℕ} 0 1 = cc in absurd (omega arith)
 
-pub dist10-measures : (ax ay bx by : Sixteenths) (t : Tenths) → dist10Of ax ay bx by ≡ Dist10.Answered t → IsTenths (t .0) (squared (ax .0 -ℤ bx .0) (ay .0 -ℤ by .0))
+pub dist10-measures : (ax ay bx by : Sixteenths) (t : Tenths) → dist10Of ax ay bx by ≡ Dist10.Answered t → IsTenths (t .0) (squared (ax ⊟ bx) (ay ⊟ by))
 unfolding gapOf
 dist10-measures ax ay bx by t e =
-    let dx = ax .0 -ℤ bx .0 in
-    let dy = ay .0 -ℤ by .0 in
+    let dx = ax ⊟ bx in
+    let dy = ay ⊟ by in
     measured _ (squared dx dy) t (λ h. omega (arith, squared-reach dx dy (and-left _ _ h) (and-right _ _ h))) e
 
 -- LONG, number 4, exactly for more than 64 pairs; else WIDE exactly if a tap has no distance; else mean and largest.

@@ -3,13 +3,13 @@
 -- "WIDE if a coordinate difference leaves i32; a sum of 2^63 (past the Rust's i64) is answered." Document 02, [6]: "The
 -- tenths become the largest t with (16t) squared at most 100 times the squared distance in sixteenths."
 use Prim.Native.Nat.{ℕ, _+_, _*_, _/_, _≤_, _<_}
-use lib.IntN.{ℤ, natAbs, _-ℤ_}
+use lib.IntN.{natAbs}
 use Rattle.panel.specs.Refusals.{Told, answered, refused}
 use Rattle.panel.specs.Tests.{if_then_else_, _and_}
 use Rattle.panel.specs.declared.refusals.Refusal.the-variants as Refusal
 use Rattle.calmap.specs.Roots.{rootBy}
 use Rattle.calmap.specs.Sizes.{sixteenthsIn, hundred}
-use Rattle.calmap.specs.Wide.{in32}
+use Rattle.calmap.specs.Units.{tenths, _⊟_, sixteenthsFit}
 use Rattle.calmap.specs.declared.gaps.Dist10Answer.{Dist10Answer}
 use Rattle.calmap.specs.declared.gaps.Dist10Answer.the-variants.{Answered, Refused}
 use Rattle.calmap.specs.declared.gaps.Gap.{Gap}
@@ -21,15 +21,15 @@ abbrev pub square : ℕ → ℕ
 square n = n * n
 
 -- the square of the straight line by dx and dy
-unfoldable pub squared : ℤ → ℤ → ℕ
-squared dx dy = square (natAbs dx) + square (natAbs dy)
+unfoldable pub squared : Sixteenths → Sixteenths → ℕ
+squared dx dy = square (natAbs (dx .0)) + square (natAbs (dy .0))
 
 -- that from b to a, unless a coordinate difference leaves i32
 unfoldable pub gapOf : Sixteenths → Sixteenths → Sixteenths → Sixteenths → Gap
 gapOf ax ay bx by =
-    let dx = ax .0 -ℤ bx .0 in
-    let dy = ay .0 -ℤ by .0 in
-    if in32 dx and in32 dy then Squared (squared dx dy) else Wide
+    let dx = ax ⊟ bx in
+    let dy = ay ⊟ by in
+    if sixteenthsFit dx and sixteenthsFit dy then Squared (squared dx dy) else Wide
 
 -- t is the largest with (16t) squared at most 100 times d2: that of the next one is over it. There is one such t, and
 -- `tenthsOf` is it for every d2 of 64 bits (`tenths-below`, `tenths-above`, `tenths-only` of proofs/Laws.antt).
@@ -45,9 +45,6 @@ tenthsOf d2 = rootBy 36 (hundred * d2) / sixteenthsIn
 -- stated over any rule, so that it can be said of the one before as well (crate oldtenths).
 abbrev pub Rule : Type 0
 Rule = ℕ → ℕ
-
-abbrev pub tenths : ℕ → Tenths
-tenths n = record { 0 = n }
 
 abbrev pub inTenths : Rule → Gap → Dist10Answer
 inTenths rule (Squared d2) = Answered (tenths (rule d2))

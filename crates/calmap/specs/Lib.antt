@@ -2,6 +2,7 @@
 -- no rule.
 pub mod Sizes
 pub mod Wide
+pub mod Units
 pub mod Maps
 pub mod Screening
 pub mod Roots

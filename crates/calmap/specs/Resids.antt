@@ -4,15 +4,15 @@
 -- in `resid`". The distances are told in tenths by the rule of `dist10`; a mean is that of tenths.
 use Prim.Native.Nat.{ℕ, max}
 use mathlib.Core.List.{List, [], _∷_, map}
-use lib.IntN.{ℤ, pos, _*ℤ_}
 use lib.ListN.{length, take}
 use Rattle.panel.specs.Centroids.{mean}
 use Rattle.panel.specs.Refusals.{Told, answered, refused}
 use Rattle.panel.specs.Tests.{if_then_else_, _<?_}
 use Rattle.panel.specs.declared.refusals.Refusal.the-variants as Refusal
-use Rattle.calmap.specs.Distances.{gapOf, Rule, tenthsOf, tenths}
-use Rattle.calmap.specs.Maps.{applyOf, sixteenths}
-use Rattle.calmap.specs.Sizes.{sixteenthsIn, longest}
+use Rattle.calmap.specs.Distances.{gapOf, Rule, tenthsOf}
+use Rattle.calmap.specs.Maps.{applyOf}
+use Rattle.calmap.specs.Sizes.{longest}
+use Rattle.calmap.specs.Units.{tenths, inSixteenths}
 use Rattle.calmap.specs.declared.gaps.Gap.{Gap}
 use Rattle.calmap.specs.declared.gaps.Gap.the-variants.{Squared, Wide}
 use Rattle.calmap.specs.declared.mapping.ApplyAnswer.{ApplyAnswer}
@@ -22,7 +22,6 @@ use Rattle.calmap.specs.declared.residuals.ResidAnswer.the-variants.{Ans
 use Rattle.calmap.specs.declared.residuals.Spread.{Spread}
 use Rattle.calmap.specs.declared.units.Cal.{Cal}
 use Rattle.calmap.specs.declared.units.Aim.{Aim}
-use Rattle.calmap.specs.declared.units.Sixteenths.{Sixteenths}
 use Rattle.calmap.specs.declared.units.Tap.{Tap}
 
 -- raw taps and their targets, to the shorter length
@@ -30,10 +29,6 @@ unfoldable pub pairsOf : List Tap → List Tap → List Aim
 pairsOf [] ts = []
 pairsOf (r ∷ rs) [] = []
 pairsOf (r ∷ rs) (t ∷ ts) = record { raw = r; tgt = t } ∷ pairsOf rs ts
-
--- whole pixels in sixteenths
-abbrev pub inSixteenths : ℤ → Sixteenths
-inSixteenths v = sixteenths (v *ℤ pos sixteenthsIn)
 
 -- from where a tap lands to its target
 abbrev pub farOff : ApplyAnswer → Tap → Gap

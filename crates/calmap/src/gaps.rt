@@ -1,8 +1,9 @@
 // How far two places are apart, in tenths of a pixel.
 ghost use mathlib.Core.Path.{_≡_};
-ghost use Rattle.calmap.specs.Distances.{gapOf, tenthsOf, tenths, dist10Of};
+ghost use Rattle.calmap.specs.Distances.{gapOf, tenthsOf, dist10Of};
+ghost use Rattle.calmap.specs.Units.{tenths};
 use crate::checked;
-use crate::checked::Narrow;
+use crate::checked::Across;
 use crate::roots;
 use crate::units::Sixteenths;
 use crate::units::Tenths;
@@ -25,13 +26,13 @@ pub enum Dist10Answer {
 pub fn gap_between(ax: Sixteenths, ay: Sixteenths, bx: Sixteenths, by: Sixteenths) -> Gap
     ensures { λ r. ⌜ r ≡ gapOf ax ay bx by ⌝ }
 {
-    let Narrow::In(dx) = checked::minus(ax, bx) else {
+    let Across::In(dx) = checked::minus(ax, bx) else {
         return Gap::Wide;
     };
-    let Narrow::In(dy) = checked::minus(ay, by) else {
+    let Across::In(dy) = checked::minus(ay, by) else {
         return Gap::Wide;
     };
-    Gap::Squared(panel::square(dx) + panel::square(dy))
+    Gap::Squared(panel::square(dx.0) + panel::square(dy.0))
 }
 
 // A squared distance in sixteenths of a pixel, as a distance in tenths: the largest t with 16t * 16t <= 100 * d2, which

@@ -1,9 +1,9 @@
--- The code's own steps: numbers that are in i32 or none, and what is made of them; how large a distance can be.
+-- The code's own steps: sums and differences that are in i32 or none, and what is made of them; how large a distance can be.
 -- proofs/Chains.antt, Slight.antt and Bounds.antt have that they end where specs/Maps.antt, Screening.antt, Distances.antt
 -- and Resids.antt say.
 use Prim.Native.Nat.{ℕ, _-_}
 use mathlib.Core.Bool.{Bool}
-use lib.IntN.{ℤ, _+ℤ_}
+use lib.IntN.{ℤ}
 use lib.Signed.{mag}
 use Rattle.panel.specs.Sizes.{width, height}
 use Rattle.panel.specs.Tests.{if_then_else_, _and_, _<?_}
@@ -11,8 +11,10 @@ use Rattle.panel.specs.declared.points.Point.{Point}
 use Rattle.panel.specs.declared.refusals.Refusal.the-variants as Refusal
 use Rattle.calmap.specs.Maps.{line, lineFits, spot}
 use Rattle.calmap.specs.Screening.{nudge, nudgeFits, moved}
-use Rattle.calmap.specs.Sizes.{twelve}
-use Rattle.calmap.specs.Wide.{in32, in16, down}
+use Rattle.calmap.specs.Units.{_⊞_, stepsFit, downTwelve, sixteenthsFit}
+use Rattle.calmap.specs.Wide.{in16}
+use Rattle.calmap.specs.declared.checked.Across.{Across}
+use Rattle.calmap.specs.declared.checked.Across.the-variants as Across
 use Rattle.calmap.specs.declared.checked.Narrow.{Narrow}
 use Rattle.calmap.specs.declared.checked.Narrow.the-variants.{In, Wide}
 use Rattle.calmap.specs.declared.gaps.Gap as gap
@@ -22,12 +24,16 @@ use Rattle.calmap.specs.declared.screens.ScreenAnswer.{ScreenAnswer}
 use Rattle.calmap.specs.declared.screens.ScreenAnswer.the-variants as Screen
 use Rattle.calmap.specs.declared.units.Cal.{Cal}
 use Rattle.calmap.specs.declared.units.Q16.{Q16}
+use Rattle.calmap.specs.declared.units.Sixteenths.{Sixteenths}
 
-unfoldable pub narrowOf : ℤ → Narrow
-narrowOf z = if in32 z then In z else Wide
+unfoldable pub narrowOf : Q16 → Narrow
+narrowOf q = if stepsFit q then In q else Wide
+
+unfoldable pub acrossOf : Sixteenths → Across
+acrossOf s = if sixteenthsFit s then Across.In s else Across.Wide
 
 unfoldable pub plusOf : Narrow → Narrow → Narrow
-plusOf (In a) (In b) = narrowOf (a +ℤ b)
+plusOf (In a) (In b) = narrowOf (a ⊞ b)
 plusOf (In a) Wide = Wide
 plusOf Wide b = Wide
 
@@ -45,7 +51,7 @@ unfoldable pub mapFits : Cal → ℤ → ℤ → Bool
 mapFits c x y = bothFit (c .c0) (c .c1) (c .c2) (c .c3) (c .c4) (c .c5) x y
 
 unfoldable pub spotOf : Cal → ℤ → ℤ → Spot
-spotOf c x y = spot (down twelve (line x (c .c0) (c .c1) (c .c2) x y)) (down twelve (line y (c .c3) (c .c4) (c .c5) x y))
+spotOf c x y = spot (downTwelve (line x (c .c0) (c .c1) (c .c2) x y)) (downTwelve (line y (c .c3) (c .c4) (c .c5) x y))
 
 -- Numbers so small that it always does: pixels, steps of a shift, and a calibration of such shifts and of scales and
 -- cross terms in i16. Their ends:
@@ -61,9 +67,11 @@ fewPixels v = mag v <? nearEnd
 unfoldable pub fewSteps : Q16 → Bool
 fewSteps q = mag (q .0) <? shortEnd
 
+unfoldable pub small : Q16 → Bool
+small q = in16 (q .0)
+
 unfoldable pub slight : Cal → Bool
-slight c =
-    in16 (c .c0 .0) and in16 (c .c1 .0) and in16 (c .c3 .0) and in16 (c .c4 .0) and fewSteps (c .c2) and fewSteps (c .c5)
+slight c = small (c .c0) and small (c .c1) and small (c .c3) and small (c .c4) and fewSteps (c .c2) and fewSteps (c .c5)
 
 -- a point moved by two sums in Q16 steps
 unfoldable pub placedOf : Point → Narrow → Narrow → ScreenAnswer

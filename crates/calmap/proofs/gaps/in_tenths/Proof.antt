@@ -2,7 +2,7 @@
 use mathlib.Core.Path.{ap, _∙_}
 use native.Mathlib.Omega.{arith}
 use borrow.Author.Needs.{needs}
-use Rattle.calmap.specs.Distances.{tenths}
+use Rattle.calmap.specs.Units.{tenths}
 use Rattle.calmap.proofs.Rooted.{root-is, root-below-end}
 use Rattle.calmap.proofs.Tenths.{tenths-are, one-tenths, low-digits, by-root}
 use Rattle.calmap.proofs.gaps.in_tenths.Statement.{statement}

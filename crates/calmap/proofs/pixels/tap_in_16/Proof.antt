@@ -6,7 +6,7 @@ use mir.Syntax.{w16, w32}
 use mir.Val.{toZ, ofZ, SFits}
 use mir.ValLaws.{toZ-ofZ}
 use borrow.Author.Needs.{needs}
-use Rattle.calmap.specs.Maps.{sixteenths}
+use Rattle.calmap.specs.Units.{sixteenths}
 use Rattle.calmap.specs.Sizes.{sixteenthsIn}
 use Rattle.calmap.proofs.Signed.{plain, mag-mul}
 use Rattle.calmap.proofs.pixels.tap_in_16.Statement.{statement}

@@ -10,7 +10,8 @@ use borrow.Author.Needs.{needs}
 use Rattle.calmap.specs.code.Checked.{farthest, squareIn}
 use Rattle.calmap.specs.Distances.{gapOf}
 use Rattle.calmap.specs.Maps.{applyOf}
-use Rattle.calmap.specs.Resids.{inSixteenths, missOf}
+use Rattle.calmap.specs.Resids.{missOf}
+use Rattle.calmap.specs.Units.{inSixteenths}
 use Rattle.calmap.specs.declared.gaps.Gap.{Gap}
 use Rattle.calmap.proofs.Bounds.{applied-size, miss-at-most}
 use Rattle.calmap.proofs.Signed.{plain}
