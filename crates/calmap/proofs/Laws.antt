@@ -17,11 +17,12 @@ use Rattle.calmap.specs.declared.mapping.ApplyAnswer.the-variants.{Answe
 use Rattle.calmap.specs.declared.mapping.Spot.{Spot}
 use Rattle.calmap.specs.declared.units.Cal.{Cal}
 use Rattle.calmap.specs.declared.units.Q16.{Q16}
+use Rattle.calmap.specs.declared.units.Tenths.{Tenths}
 use Rattle.calmap.proofs.Bounds as Bounds
 use Rattle.calmap.proofs.Floors as Floors
 use Rattle.calmap.proofs.Rooted as Rooted
 use Rattle.calmap.proofs.Signed.{in32-yes}
-use Rattle.calmap.proofs.Tenths as Tenths
+use Rattle.calmap.proofs.Tenths as Telling
 
 -- Squares.
 
@@ -56,20 +57,20 @@ module _ (v : ℕ) (h : v < 2 ^ 64) where
 -- The tenths.
 
 module _ (d2 : ℕ) (h : d2 < 2 ^ 64) where
-  pub tenths-below : square (sixteenthsIn * tenthsOf d2) ≤ hundred * d2
-  tenths-below = Tenths.tenths-are d2 h .below
+  pub tenths-below : square (sixteenthsIn * tenthsOf d2 .0) ≤ hundred * d2
+  tenths-below = Telling.tenths-are d2 h .below
 
-  pub tenths-above : hundred * d2 < square (sixteenthsIn * (tenthsOf d2 + 1))
-  tenths-above = Tenths.tenths-are d2 h .above
+  pub tenths-above : hundred * d2 < square (sixteenthsIn * (tenthsOf d2 .0 + 1))
+  tenths-above = Telling.tenths-are d2 h .above
 
-  pub tenths-only : (t : ℕ) → square (sixteenthsIn * t) ≤ hundred * d2 → hundred * d2 < square (sixteenthsIn * (t + 1)) → t ≡ tenthsOf d2
-  tenths-only t lo hi = Tenths.one-tenths {d2 = d2} (record { below = lo; above = hi }) (Tenths.tenths-are d2 h)
+  pub tenths-only : (t : Tenths) → square (sixteenthsIn * t .0) ≤ hundred * d2 → hundred * d2 < square (sixteenthsIn * (t .0 + 1)) → t ≡ tenthsOf d2
+  tenths-only t lo hi = Telling.one-tenths {d2 = d2} (record { below = lo; above = hi }) (Telling.tenths-are d2 h)
 
-  pub tenths-at-least : (t : ℕ) → square (sixteenthsIn * t) ≤ hundred * d2 → t ≤ tenthsOf d2
-  tenths-at-least t lo = Tenths.tenths-at-least d2 h t lo
+  pub tenths-at-least : (t : ℕ) → square (sixteenthsIn * t) ≤ hundred * d2 → t ≤ tenthsOf d2 .0
+  tenths-at-least t lo = Telling.tenths-at-least d2 h t lo
 
-  pub tenths-at-most : (t : ℕ) → hundred * d2 < square (sixteenthsIn * (t + 1)) → tenthsOf d2 ≤ t
-  tenths-at-most t over = Tenths.tenths-at-most d2 h t over
+  pub tenths-at-most : (t : ℕ) → hundred * d2 < square (sixteenthsIn * (t + 1)) → tenthsOf d2 .0 ≤ t
+  tenths-at-most t over = Telling.tenths-at-most d2 h t over
 
 -- The shift: with m for 2 ^ places and q for what is left, m·q ≤ z < m·(q + 1).
 

@@ -10,7 +10,6 @@ use lib.ListN.{length, take}
 use Rattle.panel.proofs.Follow.{if-of}
 use Rattle.panel.proofs.Laws.{and-left, and-right}
 use Rattle.panel.proofs.Promises.{one-answer}
-use Rattle.panel.specs.Centroids.{mean}
 use Rattle.panel.specs.Points.{allOnPanel}
 use Rattle.panel.specs.Refusals.{Told}
 use Rattle.panel.specs.Sizes.{width, height}
@@ -20,11 +19,11 @@ use Rattle.calmap.specs.Checks.{none, judged, scaleHolds, allStay, verdi
 use Rattle.calmap.specs.Distances.{squared, gapOf, IsTenths, tenthsOf, inTenths, dist10Of, toldDist10}
 use Rattle.calmap.specs.code.Arrays.{heldPoints, heldPairs, residHeld, checkHeld}
 use Rattle.calmap.specs.Maps.{line, lineFits, spot, applyOf, toldApply}
-use Rattle.calmap.specs.Resids.{Misses, pairsOf, known, wide, missOf, missesOf, largest, spread, spreadBy, residOf, residBy, residFirst, residFirstBy, toldResid}
+use Rattle.calmap.specs.Resids.{Misses, pairsOf, known, wide, missOf, missesOf, meanOf, largest, spread, spreadBy, residOf, residBy, residFirst, residFirstBy, toldResid}
 use Rattle.calmap.specs.Roots.{IsRoot, rootOf}
 use Rattle.calmap.specs.Screening.{nudge, nudgeFits, moved, screenOf, toldScreen}
 use Rattle.calmap.specs.Sizes.{longest}
-use Rattle.calmap.specs.Units.{sixteenths, tenths, downTwelve, _⊟_, sixteenthsFit}
+use Rattle.calmap.specs.Units.{sixteenths, tenths, downTwelve, _⊟_, sixteenthsFit, fartherOf}
 use Rattle.calmap.specs.Wide.{in16}
 use Rattle.calmap.specs.declared.gaps.Dist10Answer.{Dist10Answer}
 use Rattle.calmap.specs.declared.gaps.Dist10Answer.the-variants as Dist10
@@ -72,18 +71,18 @@ isqrt-tells v h = root-is v h
 
 -- WIDE exactly if a coordinate difference leaves i32.
 pub dist10-tells : (ax ay bx by : Sixteenths) → toldDist10 (dist10Of ax ay bx by)
-    ≡ if_then_else_ (_and_ (sixteenthsFit (ax ⊟ bx)) (sixteenthsFit (ay ⊟ by))) (tells 0 (tenths (tenthsOf (squared (ax ⊟ bx) (ay ⊟ by))))) (tells 3 (tenths 0))
+    ≡ if_then_else_ (_and_ (sixteenthsFit (ax ⊟ bx)) (sixteenthsFit (ay ⊟ by))) (tells 0 (tenthsOf (squared (ax ⊟ bx) (ay ⊟ by)))) (tells 3 (tenths 0))
 unfolding gapOf
 dist10-tells ax ay bx by = if-of (λ g. toldDist10 (inTenths tenthsOf g)) _ _ _
 
 -- What it tells is the largest t with (16t) squared at most 100 times the squared distance, whatever that is: it is at most
 -- 2^63 (`squared-reach`).
-measured : (b : Bool) (d2 : ℕ) (t : Tenths) → (b ≡ true → d2 < 2 ^ 64) → inTenths tenthsOf (if_then_else_ b (Squared d2) Wide) ≡ Dist10.Answered t → IsTenths (t .0) d2
+measured : (b : Bool) (d2 : ℕ) (t : Tenths) → (b ≡ true → d2 < 2 ^ 64) → inTenths tenthsOf (if_then_else_ b (Squared d2) Wide) ≡ Dist10.Answered t → IsTenths t d2
 unfolding if_then_else_
-measured true d2 t f e = let q : tenths (tenthsOf d2) ≡ t = cc in subst (λ (x : Tenths). IsTenths (x .0) d2) q (tenths-are d2 (f refl))
+measured true d2 t f e = let q : tenthsOf d2 ≡ t = cc in subst (λ (x : Tenths). IsTenths x d2) q (tenths-are d2 (f refl))
 measured false d2 t f e = let z : _≡_ {A = ℕ} 0 1 = cc in absurd (omega arith)
 
-pub dist10-measures : (ax ay bx by : Sixteenths) (t : Tenths) → dist10Of ax ay bx by ≡ Dist10.Answered t → IsTenths (t .0) (squared (ax ⊟ bx) (ay ⊟ by))
+pub dist10-measures : (ax ay bx by : Sixteenths) (t : Tenths) → dist10Of ax ay bx by ≡ Dist10.Answered t → IsTenths t (squared (ax ⊟ bx) (ay ⊟ by))
 unfolding gapOf
 dist10-measures ax ay bx by t e =
     let dx = ax ⊟ bx in
@@ -91,20 +90,23 @@ dist10-measures ax ay bx by t e =
     measured _ (squared dx dy) t (λ h. omega (arith, squared-reach dx dy (and-left _ _ h) (and-right _ _ h))) e
 
 -- LONG, number 4, exactly for more than 64 pairs; else WIDE exactly if a tap has no distance; else mean and largest.
+abbrev nowhere : Spread
+nowhere = spread (tenths 0) (tenths 0)
+
 abbrev toldMisses : Misses → Told Spread
-toldMisses (known ds) = tells 0 (spread (mean (map tenthsOf ds)) (largest (map tenthsOf ds)))
-toldMisses wide = tells 3 (spread 0 0)
+toldMisses (known ds) = tells 0 (spread (meanOf (map tenthsOf ds)) (largest (map tenthsOf ds)))
+toldMisses wide = tells 3 nowhere
 
 spread-told : (ms : Misses) → toldResid (spreadBy tenthsOf ms) ≡ toldMisses ms
 spread-told (known ds) = refl
 spread-told wide = refl
 
-pub resid-tells : (c : Cal) (ps : List Aim) → toldResid (residOf c ps) ≡ if_then_else_ (longest <? length ps) (tells 4 (spread 0 0)) (toldMisses (missesOf c ps))
+pub resid-tells : (c : Cal) (ps : List Aim) → toldResid (residOf c ps) ≡ if_then_else_ (longest <? length ps) (tells 4 nowhere) (toldMisses (missesOf c ps))
 unfolding residBy
-resid-tells c ps = if-of toldResid _ _ _ ∙ ap (if_then_else_ (longest <? length ps) (tells 4 (spread 0 0))) (spread-told (missesOf c ps))
+resid-tells c ps = if-of toldResid _ _ _ ∙ ap (if_then_else_ (longest <? length ps) (tells 4 nowhere)) (spread-told (missesOf c ps))
 
 -- The same over the first n of an array of 64.
-pub resid-of-tells : (c : Cal) (n : ℕ) (ps : List Aim) → toldResid (residFirst c n ps) ≡ if_then_else_ (longest <? n) (tells 4 (spread 0 0)) (toldResid (residOf c (take n ps)))
+pub resid-of-tells : (c : Cal) (n : ℕ) (ps : List Aim) → toldResid (residFirst c n ps) ≡ if_then_else_ (longest <? n) (tells 4 nowhere) (toldResid (residOf c (take n ps)))
 unfolding residFirstBy
 resid-of-tells c n ps = if-of toldResid _ _ _
 
@@ -132,6 +134,9 @@ gap-unique ax ay bx by = one-answer
 
 pub dist10-unique : (ax ay bx by : Sixteenths) {r s : Dist10Answer} → r ≡ dist10Of ax ay bx by → s ≡ dist10Of ax ay bx by → r ≡ s
 dist10-unique ax ay bx by = one-answer
+
+pub farther-unique : (a b : Tenths) {r s : Tenths} → r ≡ fartherOf a b → s ≡ fartherOf a b → r ≡ s
+farther-unique a b = one-answer
 
 module _ (c : Cal) where
   pub apply16-unique : (x y : ℤ) {r s : ApplyAnswer} → r ≡ applyOf c x y → s ≡ applyOf c x y → r ≡ s

@@ -33,21 +33,21 @@ gapOf ax ay bx by =
 
 -- t is the largest with (16t) squared at most 100 times d2: that of the next one is over it. There is one such t, and
 -- `tenthsOf` is it for every d2 of 64 bits (`tenths-below`, `tenths-above`, `tenths-only` of proofs/Laws.antt).
-pub record IsTenths (t d2 : ℕ) : Type 0 where
-  pub below : square (sixteenthsIn * t) ≤ hundred * d2
-  pub above : hundred * d2 < square (sixteenthsIn * (t + 1))
+pub record IsTenths (t : Tenths) (d2 : ℕ) : Type 0 where
+  pub below : square (sixteenthsIn * t .0) ≤ hundred * d2
+  pub above : hundred * d2 < square (sixteenthsIn * (t .0 + 1))
 
 -- It, so that it computes: as often as 16 goes into the root of 100 times d2, which has 36 pairs of binary digits.
-unfoldable pub tenthsOf : ℕ → ℕ
-tenthsOf d2 = rootBy 36 (hundred * d2) / sixteenthsIn
+unfoldable pub tenthsOf : ℕ → Tenths
+tenthsOf d2 = tenths (rootBy 36 (hundred * d2) / sixteenthsIn)
 
 -- A rule by which a squared distance in sixteenths is told in tenths. The calls go by `tenthsOf`. What is made of it is
 -- stated over any rule, so that it can be said of the one before as well (crate oldtenths).
 abbrev pub Rule : Type 0
-Rule = ℕ → ℕ
+Rule = ℕ → Tenths
 
 abbrev pub inTenths : Rule → Gap → Dist10Answer
-inTenths rule (Squared d2) = Answered (tenths (rule d2))
+inTenths rule (Squared d2) = Answered (rule d2)
 inTenths rule Wide = Refused Refusal.Wide
 
 abbrev pub dist10By : Rule → Sixteenths → Sixteenths → Sixteenths → Sixteenths → Dist10Answer

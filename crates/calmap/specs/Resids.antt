@@ -2,17 +2,16 @@
 --
 -- "`resid`: mean (down) and max over the shorter length; (0,0) if none." "LONG: over 64 pairs in use". Order: "LONG, WIDE
 -- in `resid`". The distances are told in tenths by the rule of `dist10`; a mean is that of tenths.
-use Prim.Native.Nat.{ℕ, max}
+use Prim.Native.Nat.{ℕ}
 use mathlib.Core.List.{List, [], _∷_, map}
 use lib.ListN.{length, take}
-use Rattle.panel.specs.Centroids.{mean}
 use Rattle.panel.specs.Refusals.{Told, answered, refused}
 use Rattle.panel.specs.Tests.{if_then_else_, _<?_}
 use Rattle.panel.specs.declared.refusals.Refusal.the-variants as Refusal
 use Rattle.calmap.specs.Distances.{gapOf, Rule, tenthsOf}
 use Rattle.calmap.specs.Maps.{applyOf}
 use Rattle.calmap.specs.Sizes.{longest}
-use Rattle.calmap.specs.Units.{tenths, inSixteenths}
+use Rattle.calmap.specs.Units.{tenths, inSixteenths, togetherOf, shareOf, fartherOf}
 use Rattle.calmap.specs.declared.gaps.Gap.{Gap}
 use Rattle.calmap.specs.declared.gaps.Gap.the-variants.{Squared, Wide}
 use Rattle.calmap.specs.declared.mapping.ApplyAnswer.{ApplyAnswer}
@@ -23,6 +22,7 @@ use Rattle.calmap.specs.declared.residuals.Spread.{Spread}
 use Rattle.calmap.specs.declared.units.Cal.{Cal}
 use Rattle.calmap.specs.declared.units.Aim.{Aim}
 use Rattle.calmap.specs.declared.units.Tap.{Tap}
+use Rattle.calmap.specs.declared.units.Tenths.{Tenths}
 
 -- raw taps and their targets, to the shorter length
 unfoldable pub pairsOf : List Tap → List Tap → List Aim
@@ -52,17 +52,25 @@ unfoldable pub missesOf : Cal → List Aim → Misses
 missesOf c [] = known []
 missesOf c (p ∷ ps) = besides (missOf c p) (missesOf c ps)
 
--- 0 for none
-unfoldable pub largest : List ℕ → ℕ
-largest [] = 0
-largest (d ∷ ds) = max d (largest ds)
+-- tenths added up; their mean, rounded down; and the largest. Each is 0 for none
+unfoldable pub sumOf : List Tenths → Tenths
+sumOf [] = tenths 0
+sumOf (d ∷ ds) = togetherOf d (sumOf ds)
 
-abbrev pub spread : ℕ → ℕ → Spread
-spread m l = record { mean = tenths m; max = tenths l }
+unfoldable pub meanOf : List Tenths → Tenths
+meanOf [] = tenths 0
+meanOf (d ∷ ds) = shareOf (sumOf (d ∷ ds)) (length (d ∷ ds))
+
+unfoldable pub largest : List Tenths → Tenths
+largest [] = tenths 0
+largest (d ∷ ds) = fartherOf d (largest ds)
+
+abbrev pub spread : Tenths → Tenths → Spread
+spread m l = record { mean = m; max = l }
 
 -- by a rule of tenths
 abbrev pub spreadBy : Rule → Misses → ResidAnswer
-spreadBy rule (known ds) = Answered (spread (mean (map rule ds)) (largest (map rule ds)))
+spreadBy rule (known ds) = Answered (spread (meanOf (map rule ds)) (largest (map rule ds)))
 spreadBy rule wide = Refused Refusal.Wide
 
 unfoldable pub residBy : Rule → Cal → List Aim → ResidAnswer
@@ -81,4 +89,4 @@ residFirst = residFirstBy tenthsOf
 
 abbrev pub toldResid : ResidAnswer → Told Spread
 toldResid (Answered s) = answered s
-toldResid (Refused r) = refused r (spread 0 0)
+toldResid (Refused r) = refused r (spread (tenths 0) (tenths 0))

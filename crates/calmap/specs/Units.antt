@@ -1,10 +1,10 @@
 -- The units, a type for each, and what may be made of them. A number of one unit where another is asked is a type error.
 --
 -- "Sixteenths of a pixel, tenths of a pixel and Q16 steps each have a type apart." Whole pixels are plain numbers.
-use Prim.Native.Nat.{ℕ}
+use Prim.Native.Nat.{ℕ, _+_, _/_, max}
 use mathlib.Core.Bool.{Bool}
 use lib.IntN.{ℤ, pos, natAbs, _+ℤ_, _-ℤ_, _*ℤ_}
-use Rattle.panel.specs.Tests.{_≤?_}
+use Rattle.panel.specs.Tests.{_≤?_, _<?_}
 use Rattle.calmap.specs.Sizes.{one, twelve, sixteen, sixteenthsIn}
 use Rattle.calmap.specs.Wide.{in32, down}
 use Rattle.calmap.specs.declared.units.Q16.{Q16}
@@ -59,3 +59,16 @@ sixteenthsFit s = in32 (s .0)
 
 abbrev pub sixteenthsWithin : Sixteenths → Sixteenths → Bool
 sixteenthsWithin most s = natAbs (s .0) ≤? natAbs (most .0)
+
+-- Tenths: a sum, its share among n, rounded down, the larger of two, and whether they are over a limit.
+abbrev pub togetherOf : Tenths → Tenths → Tenths
+togetherOf a b = tenths (a .0 + b .0)
+
+abbrev pub shareOf : Tenths → ℕ → Tenths
+shareOf t n = tenths (t .0 / n)
+
+abbrev pub fartherOf : Tenths → Tenths → Tenths
+fartherOf a b = tenths (max (a .0) (b .0))
+
+abbrev pub over : Tenths → Tenths → Bool
+over limit t = limit .0 <? t .0

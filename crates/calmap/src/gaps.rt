@@ -1,7 +1,6 @@
 // How far two places are apart, in tenths of a pixel.
 ghost use mathlib.Core.Path.{_≡_};
 ghost use Rattle.calmap.specs.Distances.{gapOf, tenthsOf, dist10Of};
-ghost use Rattle.calmap.specs.Units.{tenths};
 use crate::checked;
 use crate::checked::Across;
 use crate::roots;
@@ -38,7 +37,7 @@ pub fn gap_between(ax: Sixteenths, ay: Sixteenths, bx: Sixteenths, by: Sixteenth
 // A squared distance in sixteenths of a pixel, as a distance in tenths: the largest t with 16t * 16t <= 100 * d2, which
 // is t * t <= 25 * d2 / 64. That is no more than d2, and is worked out so that no product on the way to it passes 64 bits.
 pub(crate) fn in_tenths(d2: u64) -> Tenths
-    ensures { λ r. ⌜ r ≡ tenths (tenthsOf d2) ⌝ }
+    ensures { λ r. ⌜ r ≡ tenthsOf d2 ⌝ }
 {
     Tenths(roots::isqrt(25 * (d2 >> 6) + (25 * (d2 & 63) >> 6)) as u32)
 }

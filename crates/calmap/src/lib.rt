@@ -33,6 +33,7 @@ pub use mapping::Spot;
 pub use mapping::apply16;
 pub use residuals::ResidAnswer;
 pub use residuals::Spread;
+pub use residuals::farther;
 pub use residuals::miss;
 pub use residuals::resid_of;
 pub use roots::isqrt;

@@ -1,6 +1,7 @@
 // How far taps land from their targets, through a calibration.
 ghost use mathlib.Core.Path.{_≡_};
-ghost use Prim.Native.Nat.{_≤_};
+ghost use Prim.Native.Nat.{_+_, _≤_, _<_};
+ghost use Rattle.calmap.specs.Units.{fartherOf, togetherOf};
 ghost use Rattle.calmap.specs.Resids.{missOf, residFirst};
 ghost use Rattle.calmap.specs.code.Checked.{farthest, squareIn};
 use crate::gaps;
@@ -23,6 +24,21 @@ pub struct Spread {
 pub enum ResidAnswer {
     Answered(Spread),
     Refused(Refusal),
+}
+
+// The larger of two distances.
+pub fn farther(a: Tenths, b: Tenths) -> Tenths
+    ensures { λ r. ⌜ r ≡ fartherOf a b ⌝ }
+{
+    Tenths(panel::larger(a.0, b.0))
+}
+
+// Their sum.
+fn together(a: Tenths, b: Tenths) -> Tenths
+    requires { ⌜ a .0 + b .0 < 4294967296 ⌝ }
+    ensures { λ r. ⌜ r ≡ togetherOf a b ⌝ }
+{
+    Tenths(a.0 + b.0)
 }
 
 // How far a tap lands from its target, squared. It lands within 2^19 sixteenths of 0 each way, and its target is there
@@ -53,8 +69,8 @@ pub fn resid_of(c: Cal, pairs: [Aim; MAX_TAPS], n: usize) -> ResidAnswer
             max: Tenths(0),
         });
     }
-    let mut sum: u32 = 0;
-    let mut most: u32 = 0;
+    let mut sum = Tenths(0);
+    let mut most = Tenths(0);
     let mut i = 0;
     while i < n {
         let p = pairs[i];
@@ -62,12 +78,12 @@ pub fn resid_of(c: Cal, pairs: [Aim; MAX_TAPS], n: usize) -> ResidAnswer
             return ResidAnswer::Refused(Refusal::Wide);
         };
         let d = gaps::in_tenths(d2);
-        sum += d.0;
-        most = panel::larger(most, d.0);
+        sum = together(sum, d);
+        most = farther(most, d);
         i += 1;
     }
     ResidAnswer::Answered(Spread {
-        mean: Tenths(sum / (n as u32)),
-        max: Tenths(most),
+        mean: Tenths(sum.0 / (n as u32)),
+        max: most,
     })
 }

@@ -1,6 +1,7 @@
 // The fit of a calibration to taps: the solution of the least squares, how far the taps are from it
 // and how far they were without it, and the verdict.
 ghost use mathlib.Core.Path.{_≡_};
+ghost use Rattle.calmap.specs.Units.{over};
 ghost use Rattle.touchcal.specs.Fits.{judgedBy, fitWith, weighed};
 ghost use Rattle.touchcal.specs.code.Arrays.{calOrIdentity, fitFirst, fitHeld};
 use crate::floats;
@@ -20,8 +21,8 @@ use calmap::Verdict;
 use panel::Point;
 use panel::Refusal;
 
-// The largest residual of an accepted fit, in tenths of a pixel.
-const MAX_RESID: u32 = 250;
+// The largest residual of an accepted fit.
+const MAX_RESID: Tenths = Tenths(250);
 
 // A fit and its residuals: mean and max of the taps through the fitted map, before the mean without
 // a calibration.
@@ -40,13 +41,20 @@ pub enum FitAnswer {
     Steep(CoefPlace),
 }
 
+// Whether a distance is over a limit.
+fn is_over(limit: Tenths, d: Tenths) -> bool
+    ensures { λ r. ⌜ r ≡ over limit d ⌝ }
+{
+    limit.0 < d.0
+}
+
 // The verdict of check, and then that of the largest residual.
 fn judged_by(v: Verdict, max: Tenths) -> Verdict
     ensures { λ r. ⌜ r ≡ judgedBy v max ⌝ }
 {
     match v {
         Verdict::Pass => {
-            if max.0 > MAX_RESID {
+            if is_over(MAX_RESID, max) {
                 return Verdict::Resid;
             }
             Verdict::Pass
