@@ -13,6 +13,7 @@ use Rattle.panel.specs.Tests.{_and_}
 use Rattle.panel.proofs.Follow.{if-true, and-true}
 use Rattle.calmap.specs.Sizes.{end32, one}
 use Rattle.calmap.specs.Wide.{in32, in16}
+use Rattle.calmap.specs.Units.{wholeSteps}
 use Rattle.calmap.specs.Maps.{line, lineFits, applyOf}
 use Rattle.calmap.specs.Resids.{farOff, missOf, Misses, known, missesOf}
 use Rattle.calmap.specs.declared.units.Q16.{Q16}
@@ -46,7 +47,7 @@ times-one (negsuc n) h = mag-neg (suc n * one) end32 (omega arith) (omega arith)
 abbrev none′ : Q16
 none′ = record { 0 = pos 0 }
 
-line-is : (v x y : ℤ) → line v none′ none′ none′ x y ≡ v *ℤ pos one
+line-is : (v x y : ℤ) → line v none′ none′ none′ x y ≡ wholeSteps v
 unfolding line
 line-is v x y = simp (zero-*ℤ, +ℤ-idr)
 

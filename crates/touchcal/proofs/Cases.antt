@@ -9,14 +9,14 @@ use lib.ListN.{replicate}
 use lib.Ieee.{nan, fin, ofBits, add, sub, mul, div, lt, ofInt, toSigned}
 use Rattle.panel.specs.Tests.{if_then_else_, _and_, _or_}
 use Rattle.panel.specs.Points.{onPanel, allOnPanel}
-use Rattle.panel.specs.Centroids.{total, mean}
 use Rattle.panel.specs.declared.points.Point.{Point}
 use Rattle.panel.specs.declared.refusals.Refusal.the-variants.{Huge}
 use Rattle.calmap.specs.Wide.{in32, in16, down}
 use Rattle.calmap.specs.Maps.{line, lineFits, applyOf}
 use Rattle.calmap.specs.Roots.{digit, rootBy}
-use Rattle.calmap.specs.Distances.{squared, gapOf, tenthsOf, tenths}
-use Rattle.calmap.specs.Resids.{missOf, missesOf, largest, residBy}
+use Rattle.calmap.specs.Distances.{squared, gapOf, tenthsOf}
+use Rattle.calmap.specs.Units.{tenths}
+use Rattle.calmap.specs.Resids.{missOf, missesOf, sumOf, meanOf, largest, residBy}
 use Rattle.calmap.specs.Checks.{mild, scaleHolds, near, stays, allStay, verdictOf, checkOf}
 use Rattle.calmap.specs.declared.units.Cal.{Cal}
 use Rattle.calmap.specs.declared.units.Q16.{Q16}
@@ -50,11 +50,11 @@ moved c2 =
     record { c0 = none; c1 = none; c2 = record { 0 = pos c2 }; c3 = none; c4 = none; c5 = none }
 
 pub corners-41 : fitOf (corners 41) target ≡ Answered (record { cal = moved 2_686_976; mean = tenths 0; max = tenths 0; before = tenths 410; verdict = Shift })
-unfolding fitBy solvedOf steppedOf momentsOf placeOf addPair sharedOf addAbout detOf spreads coefsOf deltasOf stepsOf inSteps q16Of inReach nearestStep halfAway residBy missesOf missOf largest applyOf line lineFits in32 in16 down digit rootBy squared gapOf tenthsOf checkOf verdictOf scaleHolds mild near stays allStay onPanel allOnPanel total mean if_then_else_ _and_ _or_ ofBits add sub mul div lt ofInt toSigned
+unfolding fitBy solvedOf steppedOf momentsOf placeOf addPair sharedOf addAbout detOf spreads coefsOf deltasOf stepsOf inSteps q16Of inReach nearestStep halfAway residBy missesOf missOf largest applyOf line lineFits in32 in16 down digit rootBy squared gapOf tenthsOf checkOf verdictOf scaleHolds mild near stays allStay onPanel allOnPanel sumOf meanOf if_then_else_ _and_ _or_ ofBits add sub mul div lt ofInt toSigned
 corners-41 = refl
 
 pub corners-40 : fitOf (corners 40) target ≡ Answered (record { cal = moved 2_621_440; mean = tenths 0; max = tenths 0; before = tenths 400; verdict = Pass })
-unfolding fitBy solvedOf steppedOf momentsOf placeOf addPair sharedOf addAbout detOf spreads coefsOf deltasOf stepsOf inSteps q16Of inReach nearestStep halfAway residBy missesOf missOf largest applyOf line lineFits in32 in16 down digit rootBy squared gapOf tenthsOf checkOf verdictOf scaleHolds mild near stays allStay onPanel allOnPanel total mean if_then_else_ _and_ _or_ ofBits add sub mul div lt ofInt toSigned
+unfolding fitBy solvedOf steppedOf momentsOf placeOf addPair sharedOf addAbout detOf spreads coefsOf deltasOf stepsOf inSteps q16Of inReach nearestStep halfAway residBy missesOf missOf largest applyOf line lineFits in32 in16 down digit rootBy squared gapOf tenthsOf checkOf verdictOf scaleHolds mild near stays allStay onPanel allOnPanel sumOf meanOf if_then_else_ _and_ _or_ ofBits add sub mul div lt ofInt toSigned
 corners-40 = refl
 
 -- ---- the limit of a fit, "Resid if max > 250": the corners onto themselves, but for two opposite ones that are moved by the same. The fit
@@ -76,11 +76,11 @@ shifted c2 c5 =
     record { c0 = none; c1 = none; c2 = record { 0 = pos c2 }; c3 = none; c4 = none; c5 = record { 0 = pos c5 } }
 
 pub at-the-limit : fitOf (opposite 50 4) target ≡ Answered (record { cal = shifted 1_638_400 131_072; mean = tenths 250; max = tenths 250; before = tenths 250; verdict = Pass })
-unfolding fitBy solvedOf steppedOf momentsOf placeOf addPair sharedOf addAbout detOf spreads coefsOf deltasOf stepsOf inSteps q16Of inReach nearestStep halfAway residBy missesOf missOf largest applyOf line lineFits in32 in16 down digit rootBy squared gapOf tenthsOf checkOf verdictOf scaleHolds mild near stays allStay onPanel allOnPanel total mean if_then_else_ _and_ _or_ ofBits add sub mul div lt ofInt toSigned
+unfolding fitBy solvedOf steppedOf momentsOf placeOf addPair sharedOf addAbout detOf spreads coefsOf deltasOf stepsOf inSteps q16Of inReach nearestStep halfAway residBy missesOf missOf largest applyOf line lineFits in32 in16 down digit rootBy squared gapOf tenthsOf checkOf verdictOf scaleHolds mild near stays allStay onPanel allOnPanel sumOf meanOf if_then_else_ _and_ _or_ ofBits add sub mul div lt ofInt toSigned
 at-the-limit = refl
 
 pub over-the-limit : fitOf (opposite 50 5) target ≡ Answered (record { cal = shifted 1_638_400 163_840; mean = tenths 251; max = tenths 251; before = tenths 251; verdict = Resid })
-unfolding fitBy solvedOf steppedOf momentsOf placeOf addPair sharedOf addAbout detOf spreads coefsOf deltasOf stepsOf inSteps q16Of inReach nearestStep halfAway residBy missesOf missOf largest applyOf line lineFits in32 in16 down digit rootBy squared gapOf tenthsOf checkOf verdictOf scaleHolds mild near stays allStay onPanel allOnPanel total mean if_then_else_ _and_ _or_ ofBits add sub mul div lt ofInt toSigned
+unfolding fitBy solvedOf steppedOf momentsOf placeOf addPair sharedOf addAbout detOf spreads coefsOf deltasOf stepsOf inSteps q16Of inReach nearestStep halfAway residBy missesOf missOf largest applyOf line lineFits in32 in16 down digit rootBy squared gapOf tenthsOf checkOf verdictOf scaleHolds mild near stays allStay onPanel allOnPanel sumOf meanOf if_then_else_ _and_ _or_ ofBits add sub mul div lt ofInt toSigned
 over-the-limit = refl
 
 -- ---- each refusal, in its order, and the place that STEEP tells: FEW, LINE and STEEP by few taps close together
@@ -126,7 +126,7 @@ pub refusals : map whyTold
     ∷ fitOf (pair (pos 0) (pos 0) (negsuc 1) (pos 0) ∷ pair (pos 32767) (pos 0) (pos 32767) (pos 0) ∷ pair (pos 0) (pos 100) (negsuc 1) (pos 100) ∷ []) target
     ∷ [])
     ≡ (4, 0) ∷ (5, 0) ∷ (6, 0) ∷ (16, 0) ∷ (16, 0) ∷ (16, 0) ∷ (16, 0) ∷ (0, 0) ∷ (3, 0) ∷ (17, 0) ∷ (17, 1) ∷ (0, 0) ∷ (17, 2) ∷ (17, 3) ∷ (17, 4) ∷ (17, 5) ∷ (17, 1) ∷ (17, 4) ∷ (17, 0) ∷ (3, 0) ∷ []
-unfolding fitBy solvedOf steppedOf firstRefused momentsOf placeOf addPair sharedOf addAbout detOf spreads coefsOf deltasOf stepsOf inSteps q16Of inReach nearestStep halfAway residBy missesOf missOf largest applyOf line lineFits in32 in16 down digit rootBy squared gapOf tenthsOf checkOf verdictOf scaleHolds mild near stays allStay onPanel allOnPanel total mean if_then_else_ _and_ _or_ ofBits add sub mul div lt ofInt toSigned
+unfolding fitBy solvedOf steppedOf firstRefused momentsOf placeOf addPair sharedOf addAbout detOf spreads coefsOf deltasOf stepsOf inSteps q16Of inReach nearestStep halfAway residBy missesOf missOf largest applyOf line lineFits in32 in16 down digit rootBy squared gapOf tenthsOf checkOf verdictOf scaleHolds mild near stays allStay onPanel allOnPanel sumOf meanOf if_then_else_ _and_ _or_ ofBits add sub mul div lt ofInt toSigned
 refusals = refl
 
 -- ---- the smallest fits found with a coefficient beyond its steps, a to f, and c with f: three taps nearly on one line, all targets (0,0) but that of
@@ -147,7 +147,7 @@ aside = between (pos 25) (negsuc 8) (pos 26) (pos 0) (pos 27) (pos 8)
 pub steepest : map (λ ps. whyTold (fitOf ps target))
     (upright 1_695 0 ∷ upright 1_696 0 ∷ level 1_696 0 ∷ aside 68 0 ∷ aside 69 0 ∷ upright 0 1_696 ∷ level 0 1_696 ∷ aside 0 69 ∷ aside 69 69 ∷ [])
     ≡ (0, 0) ∷ (17, 0) ∷ (17, 1) ∷ (0, 0) ∷ (17, 2) ∷ (17, 3) ∷ (17, 4) ∷ (17, 5) ∷ (17, 2) ∷ []
-unfolding fitBy solvedOf steppedOf firstRefused momentsOf placeOf addPair sharedOf addAbout detOf spreads coefsOf deltasOf stepsOf inSteps q16Of inReach nearestStep halfAway residBy missesOf missOf largest applyOf line lineFits in32 in16 down digit rootBy squared gapOf tenthsOf checkOf verdictOf scaleHolds mild near stays allStay onPanel allOnPanel total mean if_then_else_ _and_ _or_ ofBits add sub mul div lt ofInt toSigned
+unfolding fitBy solvedOf steppedOf firstRefused momentsOf placeOf addPair sharedOf addAbout detOf spreads coefsOf deltasOf stepsOf inSteps q16Of inReach nearestStep halfAway residBy missesOf missOf largest applyOf line lineFits in32 in16 down digit rootBy squared gapOf tenthsOf checkOf verdictOf scaleHolds mild near stays allStay onPanel allOnPanel sumOf meanOf if_then_else_ _and_ _or_ ofBits add sub mul div lt ofInt toSigned
 steepest = refl
 
 -- ---- `q16` at its edges: NaN; s = 2.0e9, and the float below it; a half of a step either way; and the largest s below a half, which is

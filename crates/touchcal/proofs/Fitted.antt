@@ -7,7 +7,6 @@ use Prim.Native.Nat.{ℕ}
 use native.Mathlib.Omega.{arith}
 use lib.ListN.{length}
 use Rattle.panel.specs.Tests.{if_then_else_, _or_, _<?_}
-use Rattle.panel.specs.Centroids.{mean}
 use Rattle.panel.specs.Points.{allOnPanel}
 use Rattle.panel.specs.Refusals.{Told}
 use Rattle.panel.specs.declared.points.Point.{Point}
@@ -15,8 +14,8 @@ use Rattle.panel.specs.declared.refusals.Refusal.{Refusal}
 use Rattle.panel.specs.declared.refusals.Refusal.the-variants as Refusal
 use Rattle.panel.proofs.Follow.{follow, if-of}
 use Rattle.calmap.specs.Sizes.{longest}
-use Rattle.calmap.specs.Distances.{Rule, tenthsOf, tenths}
-use Rattle.calmap.specs.Resids.{residBy, Misses, known, wide, missesOf, largest, spreadBy}
+use Rattle.calmap.specs.Distances.{Rule, tenthsOf}
+use Rattle.calmap.specs.Resids.{residBy, Misses, known, wide, missesOf, meanOf, largest, spreadBy}
 use Rattle.calmap.specs.Checks.{checkOf, verdictOf, judged}
 use Rattle.calmap.specs.declared.units.Cal.{Cal}
 use Rattle.calmap.specs.declared.units.Aim.{Aim}
@@ -107,7 +106,7 @@ zeros = unmeasured (place 0)
 abbrev pub byMisses : Cal → List Point → Misses → Misses → Told Tells
 byMisses c ts (known ds) (known before) =
     let told = map tenthsOf ds in
-    tells 0 (record { cal = c; mean = tenths (mean told); max = tenths (largest told); before = tenths (mean (map tenthsOf before)); verdict = judged (judgedBy (verdictOf c ts) (tenths (largest told))); place = place 0 })
+    tells 0 (record { cal = c; mean = meanOf told; max = largest told; before = meanOf (map tenthsOf before); verdict = judged (judgedBy (verdictOf c ts) (largest told)); place = place 0 })
 byMisses c ts (known ds) wide = tells 3 zeros
 byMisses c ts wide before = tells 3 zeros
 

@@ -13,7 +13,8 @@ use Rattle.panel.specs.Refusals.{Told, answered, refused}
 use Rattle.panel.specs.declared.points.Point.{Point}
 use Rattle.panel.specs.declared.refusals.Refusal.the-variants as Refusal
 use Rattle.calmap.specs.Sizes.{longest}
-use Rattle.calmap.specs.Distances.{Rule, tenthsOf, tenths}
+use Rattle.calmap.specs.Units.{tenths, over}
+use Rattle.calmap.specs.Distances.{Rule, tenthsOf}
 use Rattle.calmap.specs.Resids.{residBy}
 use Rattle.calmap.specs.Checks.{checkOf, Judged, none, judged}
 use Rattle.calmap.specs.declared.units.Cal.{Cal}
@@ -38,7 +39,7 @@ use Rattle.touchcal.specs.declared.fitting.FitAnswer.the-variants.{Answe
 
 -- the verdict of `check`, and then the residuals
 abbrev pub judgedBy : Verdict → Tenths → Verdict
-judgedBy Verdict.Pass max = if residLimit <? max .0 then Verdict.Resid else Verdict.Pass
+judgedBy Verdict.Pass max = if over residLimit max then Verdict.Resid else Verdict.Pass
 judgedBy Verdict.Scale max = Verdict.Scale
 judgedBy Verdict.Shift max = Verdict.Shift
 judgedBy Verdict.Resid max = Verdict.Resid
