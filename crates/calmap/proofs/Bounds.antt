@@ -12,12 +12,12 @@ use Rattle.panel.proofs.Follow.{if-true, and-true}
 use Rattle.panel.proofs.Laws.{and-left, and-right}
 use Rattle.panel.specs.Tests.{if_then_else_}
 use Rattle.panel.specs.declared.refusals.Refusal.the-variants as Refusal
-use Rattle.calmap.specs.code.Checked.{farthest, squareIn}
 use Rattle.calmap.specs.Distances.{squared, gapOf}
 use Rattle.calmap.specs.Maps.{line, lineFits, applyOf}
 use Rattle.calmap.specs.Sizes.{end32, sixteenthsIn, twelve}
 use Rattle.calmap.specs.Units.{downTwelve, inSixteenths, _⊟_, sixteenthsFit}
 use Rattle.calmap.specs.Wide.{in32}
+use Rattle.calmap.specs.code.Checked.{farthest, squareIn}
 use Rattle.calmap.specs.declared.gaps.Gap.the-variants as Gap
 use Rattle.calmap.specs.declared.mapping.ApplyAnswer.the-variants as Apply
 use Rattle.calmap.specs.declared.mapping.Spot.{Spot}

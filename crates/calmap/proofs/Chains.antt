@@ -1,7 +1,7 @@
 -- Sums that stop where one of them is not in i32: `narrowOf` and `plusOf` step by step make the rules of specs/.
 -- Assumes nothing.
 use Prim.Native.Nat.{ℕ, _-_}
-use mathlib.Core.Path.{_≡_, refl, sym, _∙_}
+use mathlib.Core.Path.{_≡_, refl, sym}
 use mathlib.Core.Bool.{Bool, true, false}
 use native.Mathlib.Omega.{arith}
 use lib.IntN.{ℤ, pos}
@@ -10,11 +10,11 @@ use Rattle.panel.specs.Sizes.{width, height}
 use Rattle.panel.specs.Tests.{if_then_else_, _and_}
 use Rattle.panel.specs.declared.points.Point.{Point}
 use Rattle.panel.specs.declared.refusals.Refusal.the-variants as Refusal
-use Rattle.calmap.specs.code.Checked.{narrowOf, acrossOf, plusOf, lineOf, nudgeOf, bothFit, mapFits, spotOf, placedOf}
 use Rattle.calmap.specs.Maps.{line, lineFits, applyOf}
 use Rattle.calmap.specs.Screening.{nudge, nudgeFits, moved, screenOf}
 use Rattle.calmap.specs.Sizes.{half}
 use Rattle.calmap.specs.Units.{wholeSteps, _·_, _⊞_, stepsFit, sixteenthsFit}
+use Rattle.calmap.specs.code.Checked.{narrowOf, acrossOf, plusOf, lineOf, nudgeOf, bothFit, mapFits, spotOf, placedOf}
 use Rattle.calmap.specs.declared.checked.Across.{Across}
 use Rattle.calmap.specs.declared.checked.Across.the-variants as Across
 use Rattle.calmap.specs.declared.checked.Narrow.{Narrow}

@@ -17,8 +17,8 @@ use Rattle.calmap.specs.Resids.{missesOf, spreadBy, residBy, residFirstB
 use Rattle.calmap.specs.Sizes.{longest}
 use Rattle.calmap.specs.declared.limits.CheckAnswer.the-variants as Check
 use Rattle.calmap.specs.declared.residuals.ResidAnswer.the-variants as Resid
-use Rattle.calmap.specs.declared.units.Cal.{Cal}
 use Rattle.calmap.specs.declared.units.Aim.{Aim}
+use Rattle.calmap.specs.declared.units.Cal.{Cal}
 
 not-long : {A : Type 0} (n : ℕ) (xs : List A) → n ≤ longest → (longest <? length (take n xs)) ≡ false
 not-long n xs h = le-ltb longest (length (take n xs)) (rw length-take (omega arith))

@@ -13,11 +13,11 @@ use Rattle.panel.proofs.Follow.{if-true, if-false, and-true, and-false}
 use Rattle.panel.specs.Tests.{_and_, _<?_}
 use Rattle.panel.specs.declared.points.Point.{Point}
 use Rattle.calmap.specs.Checks.{checkOf, checkFirst}
-use Rattle.calmap.specs.code.Arrays.{filled, tap0, point0, heldTaps, heldPoints, heldPairs, pairUp, putTap, putPoint, residHeld, checkHeld}
 use Rattle.calmap.specs.Resids.{pairsOf, residOf, residBy, residFirstBy}
 use Rattle.calmap.specs.Sizes.{longest}
-use Rattle.calmap.specs.declared.units.Cal.{Cal}
+use Rattle.calmap.specs.code.Arrays.{filled, tap0, point0, heldTaps, heldPoints, heldPairs, pairUp, putTap, putPoint, residHeld, checkHeld}
 use Rattle.calmap.specs.declared.units.Aim.{Aim}
+use Rattle.calmap.specs.declared.units.Cal.{Cal}
 use Rattle.calmap.specs.declared.units.Tap.{Tap}
 
 -- The array.

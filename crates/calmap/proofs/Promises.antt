@@ -17,7 +17,6 @@ use Rattle.panel.specs.Tests.{if_then_else_, _and_, _<?_}
 use Rattle.panel.specs.declared.points.Point.{Point}
 use Rattle.calmap.specs.Checks.{none, judged, scaleHolds, allStay, verdictOf, checkOf, checkFirst, toldCheck}
 use Rattle.calmap.specs.Distances.{squared, gapOf, IsTenths, tenthsOf, inTenths, dist10Of, toldDist10}
-use Rattle.calmap.specs.code.Arrays.{heldPoints, heldPairs, residHeld, checkHeld}
 use Rattle.calmap.specs.Maps.{line, lineFits, spot, applyOf, toldApply}
 use Rattle.calmap.specs.Resids.{Misses, pairsOf, known, wide, missOf, missesOf, meanOf, largest, spread, spreadBy, residOf, residBy, residFirst, residFirstBy, toldResid}
 use Rattle.calmap.specs.Roots.{IsRoot, rootOf}
@@ -25,20 +24,21 @@ use Rattle.calmap.specs.Screening.{nudge, nudgeFits, moved, screenOf, to
 use Rattle.calmap.specs.Sizes.{longest}
 use Rattle.calmap.specs.Units.{sixteenths, tenths, downTwelve, _⊟_, sixteenthsFit, fartherOf}
 use Rattle.calmap.specs.Wide.{in16}
+use Rattle.calmap.specs.code.Arrays.{heldPoints, heldPairs, residHeld, checkHeld}
+use Rattle.calmap.specs.declared.arrays.Aims.{Aims}
+use Rattle.calmap.specs.declared.arrays.Points.{Points}
 use Rattle.calmap.specs.declared.gaps.Dist10Answer.{Dist10Answer}
 use Rattle.calmap.specs.declared.gaps.Dist10Answer.the-variants as Dist10
 use Rattle.calmap.specs.declared.gaps.Gap.{Gap}
 use Rattle.calmap.specs.declared.gaps.Gap.the-variants.{Squared, Wide}
-use Rattle.calmap.specs.declared.arrays.Aims.{Aims}
-use Rattle.calmap.specs.declared.arrays.Points.{Points}
 use Rattle.calmap.specs.declared.limits.CheckAnswer.{CheckAnswer}
 use Rattle.calmap.specs.declared.limits.Verdict.the-variants.{Pass, Scale, Shift}
 use Rattle.calmap.specs.declared.mapping.ApplyAnswer.{ApplyAnswer}
 use Rattle.calmap.specs.declared.residuals.ResidAnswer.{ResidAnswer}
 use Rattle.calmap.specs.declared.residuals.Spread.{Spread}
 use Rattle.calmap.specs.declared.screens.ScreenAnswer.{ScreenAnswer}
-use Rattle.calmap.specs.declared.units.Cal.{Cal}
 use Rattle.calmap.specs.declared.units.Aim.{Aim}
+use Rattle.calmap.specs.declared.units.Cal.{Cal}
 use Rattle.calmap.specs.declared.units.Sixteenths.{Sixteenths}
 use Rattle.calmap.specs.declared.units.Tap.{Tap}
 use Rattle.calmap.specs.declared.units.Tenths.{Tenths}

@@ -10,12 +10,11 @@ use lib.Signed.{mag}
 use borrow.Author.Tests.{ltb-true, lt-ltb}
 use Rattle.panel.proofs.Follow.{and-true}
 use Rattle.panel.proofs.Laws.{and-left, and-right}
-use Rattle.panel.specs.Tests.{_and_}
-use Rattle.calmap.specs.code.Checked.{bothFit, mapFits, nearEnd, shortEnd, fewPixels, fewSteps, small, slight}
 use Rattle.calmap.specs.Maps.{line, lineFits}
 use Rattle.calmap.specs.Sizes.{end16, one}
 use Rattle.calmap.specs.Units.{wholeSteps, _·_, _⊞_, stepsFit}
 use Rattle.calmap.specs.Wide.{in16}
+use Rattle.calmap.specs.code.Checked.{bothFit, mapFits, nearEnd, shortEnd, fewPixels, fewSteps, small, slight}
 use Rattle.calmap.specs.declared.units.Cal.{Cal}
 use Rattle.calmap.specs.declared.units.Q16.{Q16}
 use Rattle.calmap.proofs.Signed.{mag-add, mag-mul, in32-yes}

@@ -16,8 +16,8 @@ use Rattle.calmap.specs.declared.gaps.Gap as gap
 use Rattle.calmap.specs.declared.gaps.Gap.the-variants.{Squared, Wide}
 use Rattle.calmap.specs.declared.residuals.ResidAnswer.{ResidAnswer}
 use Rattle.calmap.specs.declared.residuals.ResidAnswer.the-variants.{Answered, Refused}
-use Rattle.calmap.specs.declared.units.Cal.{Cal}
 use Rattle.calmap.specs.declared.units.Aim.{Aim}
+use Rattle.calmap.specs.declared.units.Cal.{Cal}
 use Rattle.calmap.specs.declared.units.Tenths.{Tenths}
 use Rattle.calmap.proofs.Firsts.{resid-first}
 use Rattle.calmap.proofs.Walking.{walk-more, walked}

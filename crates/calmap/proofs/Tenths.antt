@@ -5,11 +5,11 @@ use mathlib.Core.Path.{_≡_, ap}
 use native.Mathlib.Nat.{le-trans, lt-of-lt-of-le, lt-of-not-le, not-le-of-lt, le-antisymm}
 use native.Mathlib.Omega.{arith}
 use lib.Bits.{bitAnd, and-mask}
-use Rattle.calmap.specs.code.Checked.{farthest, farthestTenths}
 use Rattle.calmap.specs.Distances.{square, IsTenths, tenthsOf}
 use Rattle.calmap.specs.Roots.{IsRoot, rootBy}
 use Rattle.calmap.specs.Sizes.{sixteenthsIn, hundred}
 use Rattle.calmap.specs.Units.{tenths}
+use Rattle.calmap.specs.code.Checked.{farthest, farthestTenths}
 use Rattle.calmap.specs.declared.units.Tenths.{Tenths}
 use Rattle.calmap.proofs.Rooted.{square-le, square-times, root-by}
 

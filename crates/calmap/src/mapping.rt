@@ -98,7 +98,8 @@ fn is_small(q: Q16) -> bool
 }
 
 // Whether a calibration is slight: scales and cross terms less than a half off, and shifts not far. What `check`
-// passes at a target is.
+// passes at a target is. Its tests are joined by `&`, where others are nested: nested, `apply16` and a fit take more
+// instructions.
 fn is_slight(c: Cal) -> bool
     ensures { λ r. ⌜ r ≡ slight c ⌝ }
 {

@@ -23,8 +23,8 @@ use Rattle.calmap.specs.declared.mapping.ApplyAnswer.{ApplyAnswer}
 use Rattle.calmap.specs.declared.mapping.ApplyAnswer.the-variants as Apply
 use Rattle.calmap.specs.declared.residuals.ResidAnswer.the-variants.{Answered, Refused}
 use Rattle.calmap.specs.declared.residuals.Spread.{Spread}
-use Rattle.calmap.specs.declared.units.Cal.{Cal}
 use Rattle.calmap.specs.declared.units.Aim.{Aim}
+use Rattle.calmap.specs.declared.units.Cal.{Cal}
 use Rattle.calmap.specs.declared.units.Tap.{Tap}
 use Rattle.calmap.specs.declared.units.Tenths.{Tenths}
 use Rattle.oldtenths.specs.OldTenths.{oldTenthsOf}

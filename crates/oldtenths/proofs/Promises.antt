@@ -8,8 +8,8 @@ use Rattle.calmap.specs.Distances.{dist10By}
 use Rattle.calmap.specs.Resids.{residFirstBy}
 use Rattle.calmap.specs.declared.gaps.Dist10Answer.{Dist10Answer}
 use Rattle.calmap.specs.declared.residuals.ResidAnswer.{ResidAnswer}
-use Rattle.calmap.specs.declared.units.Cal.{Cal}
 use Rattle.calmap.specs.declared.units.Aim.{Aim}
+use Rattle.calmap.specs.declared.units.Cal.{Cal}
 use Rattle.calmap.specs.declared.units.Sixteenths.{Sixteenths}
 use Rattle.touchcal.specs.code.Arrays.{fitFirstBy}
 use Rattle.touchcal.specs.declared.fitting.FitAnswer.{FitAnswer}

@@ -19,8 +19,8 @@ use Rattle.calmap.specs.declared.arrays.Aims.{Aims}
 use Rattle.calmap.specs.declared.arrays.Points.{Points}
 use Rattle.calmap.specs.declared.limits.CheckAnswer.{CheckAnswer}
 use Rattle.calmap.specs.declared.residuals.ResidAnswer.{ResidAnswer}
-use Rattle.calmap.specs.declared.units.Cal.{Cal}
 use Rattle.calmap.specs.declared.units.Aim.{Aim}
+use Rattle.calmap.specs.declared.units.Cal.{Cal}
 use Rattle.calmap.specs.declared.units.Tap.{Tap}
 use Rattle.touchcal.specs.Floats.{inReach, nearestStep, q16Of, toldQ16, offIdentity, toF32Of, fromF32Of, identity, toldCal}
 use Rattle.touchcal.specs.Scpi.{clear, kept, putOf, takeOf, toldPut, toldTake}

@@ -14,11 +14,19 @@ smaller-requires c κs = search needs
 
 returns : tie.Need-returns
 unfolding pairUp
-returns c = λ i. record { list = c .before .before .side-by-side .ensures i; n = c .before .smaller .ensures i; long = sym (and-true (c .before .before .before .before .before .args .a .long) (c .before .before .before .before .before .args .b .long) (c .if1 .taken)) i }
+returns c =
+    let n = c .before in
+    let list = n .before in
+    let a = list .before .before .before .args in
+    λ i. record { list = list .side-by-side .ensures i; n = n .smaller .ensures i; long = sym (and-true (a .a .long) (a .b .long) (c .if1 .taken)) i }
 
 returns-2 : tie.Need-returns-2
 unfolding pairUp
-returns-2 c = λ i. record { list = c .before .before .side-by-side .ensures i; n = c .before .smaller .ensures i; long = sym (and-false (c .before .before .before .before .before .args .a .long) (c .before .before .before .before .before .args .b .long) (c .if1 .left)) i }
+returns-2 c =
+    let n = c .before in
+    let list = n .before in
+    let a = list .before .before .before .args in
+    λ i. record { list = list .side-by-side .ensures i; n = n .smaller .ensures i; long = sym (and-false (a .a .long) (a .b .long) (c .if1 .left)) i }
 
 pub pair-up-spec : {M : Type 1} → statement M
 pair-up-spec = tie.close (tie.spec side-by-side-requires smaller-requires returns returns-2)

@@ -7,9 +7,9 @@ use native.Mathlib.Omega.{arith}
 use lib.ListN.{length, take, getD, set, length-set}
 use lib.Seq.{take-suc, take-suc-set}
 use borrow.Author.Needs.{needs}
-use Rattle.calmap.specs.code.Arrays.{tap0}
 use Rattle.calmap.specs.Resids.{pairsOf}
 use Rattle.calmap.specs.Sizes.{longest}
+use Rattle.calmap.specs.code.Arrays.{tap0}
 use Rattle.calmap.specs.declared.units.Aim.{Aim}
 use Rattle.calmap.specs.declared.units.Tap.{Tap}
 use Rattle.calmap.proofs.Holding.{pairs-length, pairs-at, take-all}

@@ -45,10 +45,10 @@ returns-2 c =
     sym (if-false _ _ _ (and-true _ _ x ∙ y))
 
 -- what is squared
-read-x : (c : tie.After-struct-told) → let d = c .before .before .before .before .before .before .dx .given .0 .0 in toZ w32 (ofZ w32 (d .0)) ≡ d .0
+read-x : (c : tie.After-struct-told) → let dy = c .before .before in let dx = dy .before .before .before .before in let d = dx .dx .given .0 .0 in toZ w32 (ofZ w32 (d .0)) ≡ d .0
 read-x c = search (needs, c .struct-told .given)
 
-read-y : (c : tie.After-struct-told2) → let d = c .before .before .before .before .dy .given .0 .0 in toZ w32 (ofZ w32 (d .0)) ≡ d .0
+read-y : (c : tie.After-struct-told2) → let square-x = c .before in let d = square-x .before .before .before .dy .given .0 .0 in toZ w32 (ofZ w32 (d .0)) ≡ d .0
 read-y c = search (needs, c .struct-told2 .given)
 
 square-requires : tie.Need-square-requires

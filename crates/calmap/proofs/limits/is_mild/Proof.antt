@@ -5,7 +5,7 @@ use Rattle.calmap.proofs.limits.is_mild.Statement.{statement}
 use Rattle.calmap.proofs.limits.is_mild.Tie as tie
 
 steps-within-requires : tie.Need-steps-within-requires
-steps-within-requires c κs = (9829, refl)
+steps-within-requires c κs = (_, refl)
 
 returns : tie.Need-returns
 unfolding mild

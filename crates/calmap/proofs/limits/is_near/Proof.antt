@@ -38,7 +38,7 @@ unfolding near
 returns c = sym (abs-wide _ (natAbs (shiftLimit .0)) (across-leaves _ (sym (asked (c .before .before)) ∙ c .enum-told .given .1)) (omega arith))
 
 sixteenths-within-requires : tie.Need-sixteenths-within-requires
-sixteenths-within-requires c κs = (639, refl)
+sixteenths-within-requires c κs = (_, refl)
 
 returns-2 : tie.Need-returns-2
 unfolding near

@@ -35,6 +35,8 @@ use Rattle.calmap.proofs.arrays.check_held as core
 use Rattle.calmap.proofs.arrays.check_held.Met as core-thm
 use Rattle.calmap.proofs.arrays.check_held.Symbol.{name as #core}
 use Rattle.calmap.proofs.arrays.check_held.Symbol as core-def
+use Rattle.calmap.proofs.limits.CheckAnswer as N
+use Rattle.calmap.proofs.limits.CheckAnswer.Laws as N′
 use Rattle.calmap.proofs.lists.check as f
 use Rattle.calmap.proofs.lists.check.Code as code
 use Rattle.calmap.proofs.lists.check.Key.{name as #check}
@@ -43,8 +45,6 @@ use Rattle.calmap.proofs.lists.points_of as gather
 use Rattle.calmap.proofs.lists.points_of.Met as gather-thm
 use Rattle.calmap.proofs.lists.points_of.Symbol.{name as #gather}
 use Rattle.calmap.proofs.lists.points_of.Symbol as gather-def
-use Rattle.calmap.proofs.limits.CheckAnswer as N
-use Rattle.calmap.proofs.limits.CheckAnswer.Laws as N′
 use Rattle.calmap.proofs.units.Cal as K
 use Rattle.calmap.proofs.units.Cal.Laws as K′
 use base.Fml.{Lft, Share, Fml, ftrue, flft, fat}

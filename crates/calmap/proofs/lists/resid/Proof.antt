@@ -21,8 +21,8 @@ use denote.Triple.Walked.{says, Stays, stay-none, stay-none-slice, walkOf, AllGo
 use denote.Exit.{yes}
 use denote.Struct.Laws as LL
 use denote.Enum.Laws as EL
-use Rattle.calmap.specs.code.Arrays.{heldPairs, residHeld}
 use Rattle.calmap.specs.Resids.{pairsOf, residOf}
+use Rattle.calmap.specs.code.Arrays.{heldPairs, residHeld}
 use Rattle.calmap.specs.declared.arrays.Aims.{Aims}
 use Rattle.calmap.specs.declared.residuals.ResidAnswer.{ResidAnswer}
 use Rattle.calmap.specs.declared.units.Cal.{Cal}

@@ -5,9 +5,9 @@ use mathlib.Core.Path.{_≡_, sym, subst, _∙_}
 use native.Mathlib.Omega.{arith}
 use lib.ListN.{length}
 use borrow.Author.Needs.{needs}
-use Rattle.calmap.specs.code.Checked.{farthest, farthestTenths, squareIn}
 use Rattle.calmap.specs.Distances.{tenthsOf}
 use Rattle.calmap.specs.Resids.{residFirst}
+use Rattle.calmap.specs.code.Checked.{farthest, farthestTenths, squareIn}
 use Rattle.calmap.specs.declared.gaps.Gap.{Gap}
 use Rattle.calmap.proofs.Firsts.{resid-long}
 use Rattle.calmap.proofs.Tallying.{spreadFrom, missesFrom, resid-none, loop-first, loop-next, loop-stops, loop-ends}

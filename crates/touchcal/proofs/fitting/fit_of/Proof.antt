@@ -32,7 +32,8 @@ enum-known-check c = search needs
 returns-2 : tie.Need-returns-2
 returns-2 c =
     let k = c .before .before .before in
-    let a = k .before .before .before .before .before .args in
+    let s = k .before .before in
+    let a = s .before .before .before .args in
     let refused = sym (k .check-of .ensures) ∙ c .before .check .given .1 in
     sym (fit-refused (a .n) (a .pairs) (a .m) (a .targets) (omega arith) _ _ refused)
 
