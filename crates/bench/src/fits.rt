@@ -3,8 +3,8 @@ use crate::fold;
 use crate::numbers;
 use crate::numbers::Numbers;
 use crate::numbers::PLACES;
+use calmap::Aim;
 use calmap::MAX_TAPS;
-use calmap::Pair;
 use calmap::Tap;
 use panel::Point;
 use touchcal::Fit;
@@ -26,14 +26,14 @@ fn point(x: u64, y: u64) -> Point {
     }
 }
 
-fn pairs(v: [u64; PLACES]) -> [Pair; MAX_TAPS] {
+fn pairs(v: [u64; PLACES]) -> [Aim; MAX_TAPS] {
     let p = Tap { x: 0, y: 0 };
-    let mut list = [Pair { raw: p, tgt: p }; MAX_TAPS];
+    let mut list = [Aim { raw: p, tgt: p }; MAX_TAPS];
     let mut i = 0;
     while i < TAPS {
         let raw = tap(v[2 * i], v[2 * i + 1]);
         let tgt = tap(v[2 * i + 18], v[2 * i + 19]);
-        list[i] = Pair { raw, tgt };
+        list[i] = Aim { raw, tgt };
         i += 1;
     }
     list
@@ -72,13 +72,13 @@ fn fitted(sum: u64, a: FitAnswer) -> u64 {
     }
 }
 
-fn moved(p: Pair, i: u64) -> Pair {
+fn moved(p: Aim, i: u64) -> Aim {
     let tgt = p.tgt;
     let raw = Tap {
         x: (i % 4) as i16,
         y: p.raw.y,
     };
-    Pair { raw, tgt }
+    Aim { raw, tgt }
 }
 
 pub(crate) fn fit(h: Numbers, calls: u64) -> u64 {

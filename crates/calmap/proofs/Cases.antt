@@ -6,17 +6,17 @@ use mathlib.Core.Path.{_≡_, refl}
 use mathlib.Core.List.{[], _∷_}
 use lib.IntN.{ℤ, pos, negsuc}
 use lib.ListN.{replicate}
-use Rattle.panel.specs.Centroids.{total, mean}
 use Rattle.panel.specs.Points.{onPanel, allOnPanel}
 use Rattle.panel.specs.Tests.{if_then_else_, _and_}
 use Rattle.panel.specs.declared.points.Point.{Point}
 use Rattle.panel.specs.declared.refusals.Refusal.the-variants as Refusal
 use Rattle.calmap.specs.Checks.{mild, scaleHolds, stays, allStay, verdictOf, checkOf}
-use Rattle.calmap.specs.Distances.{squared, gapOf, tenthsOf, tenths, dist10Of}
-use Rattle.calmap.specs.Maps.{line, lineFits, sixteenths, applyOf}
-use Rattle.calmap.specs.Resids.{pairsOf, missOf, missesOf, largest, spread, residBy, residOf}
+use Rattle.calmap.specs.Distances.{squared, gapOf, tenthsOf, dist10Of}
+use Rattle.calmap.specs.Maps.{line, lineFits, applyOf}
+use Rattle.calmap.specs.Resids.{pairsOf, missOf, missesOf, sumOf, meanOf, largest, spread, residBy, residOf}
 use Rattle.calmap.specs.Roots.{digit, rootBy, rootOf}
 use Rattle.calmap.specs.Screening.{nudge, nudgeFits, moved, screenOf}
+use Rattle.calmap.specs.Units.{steps, sixteenths, tenths}
 use Rattle.calmap.specs.Wide.{in32, in16, down}
 use Rattle.calmap.specs.declared.gaps.Dist10Answer.the-variants as Dist10
 use Rattle.calmap.specs.declared.limits.CheckAnswer.the-variants as Check
@@ -25,14 +25,10 @@ use Rattle.calmap.specs.declared.mapping.ApplyAnswer.the-variants as App
 use Rattle.calmap.specs.declared.residuals.ResidAnswer.the-variants as Resid
 use Rattle.calmap.specs.declared.screens.ScreenAnswer.the-variants as Screen
 use Rattle.calmap.specs.declared.units.Cal.{Cal}
-use Rattle.calmap.specs.declared.units.Q16.{Q16}
 use Rattle.calmap.specs.declared.units.Tap.{Tap}
 
-abbrev q : ℤ → Q16
-q z = record { 0 = z }
-
 abbrev cal : ℤ → ℤ → ℤ → Cal
-cal a b c = record { c0 = q a; c1 = q b; c2 = q c; c3 = q (pos 0); c4 = q (pos 0); c5 = q (pos 0) }
+cal a b c = record { c0 = steps a; c1 = steps b; c2 = steps c; c3 = steps (pos 0); c4 = steps (pos 0); c5 = steps (pos 0) }
 
 abbrev at : ℕ → ℕ → Point
 at x y = record { x = x; y = y }
@@ -58,33 +54,33 @@ unfolding gapOf if_then_else_ _and_ in32 squared tenthsOf rootBy digit
 sum-past-i64 = refl
 
 -- "A root of 401 is 250 tenths, 402 is 251." "Squared distance 13 gave 1 and now gives 2."
-tenths-of-401 : tenthsOf (401 * 401) ≡ 250
+tenths-of-401 : tenthsOf (401 * 401) ≡ tenths 250
 unfolding tenthsOf rootBy digit if_then_else_
 tenths-of-401 = refl
 
-tenths-of-402 : tenthsOf (402 * 402) ≡ 251
+tenths-of-402 : tenthsOf (402 * 402) ≡ tenths 251
 unfolding tenthsOf rootBy digit if_then_else_
 tenths-of-402 = refl
 
-tenths-of-13 : tenthsOf 13 ≡ 2
+tenths-of-13 : tenthsOf 13 ≡ tenths 2
 unfolding tenthsOf rootBy digit if_then_else_
 tenths-of-13 = refl
 
 -- 25·161283 is the first past 64·251·251: from there on a largest miss is over the limit of a fit.
-tenths-at-the-limit : tenthsOf 161282 ≡ 250
+tenths-at-the-limit : tenthsOf 161282 ≡ tenths 250
 unfolding tenthsOf rootBy digit if_then_else_
 tenths-at-the-limit = refl
 
-tenths-over-the-limit : tenthsOf 161283 ≡ 251
+tenths-over-the-limit : tenthsOf 161283 ≡ tenths 251
 unfolding tenthsOf rootBy digit if_then_else_
 tenths-over-the-limit = refl
 
--- Pairs in use are as many as the shorter list has: 65 raw taps and one target are one pair.
+-- Aims in use are as many as the shorter list has: 65 raw taps and one target are one pair.
 abbrev origin : Tap
 origin = record { x = pos 0; y = pos 0 }
 
-one-pair : residOf (cal (pos 0) (pos 0) (pos 65536)) (pairsOf (replicate 65 origin) (origin ∷ [])) ≡ Resid.Answered (spread 10 10)
-unfolding residBy pairsOf missesOf missOf mean total largest applyOf if_then_else_ _and_ in16 in32 lineFits line down gapOf squared tenthsOf rootBy digit
+one-pair : residOf (cal (pos 0) (pos 0) (pos 65536)) (pairsOf (replicate 65 origin) (origin ∷ [])) ≡ Resid.Answered (spread (tenths 10) (tenths 10))
+unfolding residBy pairsOf missesOf missOf meanOf sumOf largest applyOf if_then_else_ _and_ in16 in32 lineFits line down gapOf squared tenthsOf rootBy digit
 one-pair = refl
 
 -- and 65 of both are LONG, also where the first one is WIDE.

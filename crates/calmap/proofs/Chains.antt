@@ -1,80 +1,105 @@
 -- Sums that stop where one of them is not in i32: `narrowOf` and `plusOf` step by step make the rules of specs/.
 -- Assumes nothing.
-use Prim.Native.Nat.{ℕ, _-_, _≤_, _<_}
-use mathlib.Core.Path.{_≡_, refl, sym, _∙_}
+use Prim.Native.Nat.{ℕ, _-_}
+use mathlib.Core.Path.{_≡_, refl, sym}
 use mathlib.Core.Bool.{Bool, true, false}
 use native.Mathlib.Omega.{arith}
-use lib.Signed.{mag}
-use lib.IntN.{ℤ, pos, _+ℤ_, _*ℤ_}
-use borrow.Author.Tests.{lt-ltb, le-ltb}
+use lib.IntN.{ℤ, pos}
 use Rattle.panel.proofs.Follow.{if-true, if-false}
 use Rattle.panel.specs.Sizes.{width, height}
 use Rattle.panel.specs.Tests.{if_then_else_, _and_}
 use Rattle.panel.specs.declared.points.Point.{Point}
 use Rattle.panel.specs.declared.refusals.Refusal.the-variants as Refusal
-use Rattle.calmap.specs.Checked.{narrowOf, plusOf, lineOf, nudgeOf, bothFit, mapFits, spotOf, placedOf}
 use Rattle.calmap.specs.Maps.{line, lineFits, applyOf}
 use Rattle.calmap.specs.Screening.{nudge, nudgeFits, moved, screenOf}
-use Rattle.calmap.specs.Sizes.{end32, one, half}
-use Rattle.calmap.specs.Wide.{in32}
+use Rattle.calmap.specs.Sizes.{half}
+use Rattle.calmap.specs.Units.{wholeSteps, _·_, _⊞_, stepsFit, sixteenthsFit}
+use Rattle.calmap.specs.code.Checked.{narrowOf, acrossOf, plusOf, lineOf, nudgeOf, bothFit, mapFits, spotOf, placedOf}
+use Rattle.calmap.specs.declared.checked.Across.{Across}
+use Rattle.calmap.specs.declared.checked.Across.the-variants as Across
 use Rattle.calmap.specs.declared.checked.Narrow.{Narrow}
 use Rattle.calmap.specs.declared.checked.Narrow.the-variants.{In, Wide}
 use Rattle.calmap.specs.declared.mapping.ApplyAnswer.the-variants as Apply
 use Rattle.calmap.specs.declared.screens.ScreenAnswer.the-variants as Screen
 use Rattle.calmap.specs.declared.units.Cal.{Cal}
 use Rattle.calmap.specs.declared.units.Q16.{Q16}
+use Rattle.calmap.specs.declared.units.Sixteenths.{Sixteenths}
 
--- z, if all that came before it and z itself are in i32
-abbrev held : Bool → ℤ → Narrow
-held b z = if_then_else_ b (In z) Wide
+-- q, if all that came before it and q itself are in i32
+abbrev held : Bool → Q16 → Narrow
+held b q = if_then_else_ b (In q) Wide
 
-pub narrow-in : (z : ℤ) → mag z < end32 → In z ≡ narrowOf z
-unfolding narrowOf in32
-narrow-in z h = sym (if-true _ _ _ (lt-ltb _ _ h))
-
-pub narrow-out : (z : ℤ) → end32 ≤ mag z → Wide ≡ narrowOf z
-unfolding narrowOf in32
-narrow-out z h = sym (if-false _ _ _ (le-ltb _ _ h))
-
-narrow-held : (z : ℤ) → narrowOf z ≡ held (in32 z) z
+pub narrow-in : (q : Q16) → stepsFit q ≡ true → In q ≡ narrowOf q
 unfolding narrowOf
-narrow-held z = refl
+narrow-in q h = sym (if-true _ _ _ h)
 
--- and back: where there is a number, it is z itself
+pub narrow-out : (q : Q16) → stepsFit q ≡ false → Wide ≡ narrowOf q
+unfolding narrowOf
+narrow-out q h = sym (if-false _ _ _ h)
 
-held-fits : (b : Bool) (z t : ℤ) → held b z ≡ In t → b ≡ true
+narrow-held : (q : Q16) → narrowOf q ≡ held (stepsFit q) q
+unfolding narrowOf
+narrow-held q = refl
+
+held-fits : (b : Bool) (q t : Q16) → held b q ≡ In t → b ≡ true
 unfolding if_then_else_
-held-fits true z t e = refl
-held-fits false z t e = cc
+held-fits true q t e = refl
+held-fits false q t e = cc
 
-held-is : (b : Bool) (z t : ℤ) → held b z ≡ In t → z ≡ t
+held-leaves : (b : Bool) (q : Q16) → held b q ≡ Wide → b ≡ false
 unfolding if_then_else_
-held-is true z t e = cc
-held-is false z t e = let n : _≡_ {A = ℕ} 0 1 = cc in absurd (omega arith)
+held-leaves true q e = cc
+held-leaves false q e = refl
 
-held-leaves : (b : Bool) (z : ℤ) → held b z ≡ Wide → b ≡ false
+-- Differences: where there is one, it is s itself.
+
+abbrev kept : Bool → Sixteenths → Across
+kept b s = if_then_else_ b (Across.In s) Across.Wide
+
+pub across-in : (s : Sixteenths) → sixteenthsFit s ≡ true → Across.In s ≡ acrossOf s
+unfolding acrossOf
+across-in s h = sym (if-true _ _ _ h)
+
+pub across-out : (s : Sixteenths) → sixteenthsFit s ≡ false → Across.Wide ≡ acrossOf s
+unfolding acrossOf
+across-out s h = sym (if-false _ _ _ h)
+
+kept-fits : (b : Bool) (s t : Sixteenths) → kept b s ≡ Across.In t → b ≡ true
 unfolding if_then_else_
-held-leaves true z e = cc
-held-leaves false z e = refl
+kept-fits true s t e = refl
+kept-fits false s t e = cc
 
-pub narrow-fits : (z t : ℤ) → narrowOf z ≡ In t → in32 z ≡ true
-narrow-fits z t e = held-fits (in32 z) z t (sym (narrow-held z) ∙ e)
+kept-is : (b : Bool) (s t : Sixteenths) → kept b s ≡ Across.In t → s ≡ t
+unfolding if_then_else_
+kept-is true s t e = cc
+kept-is false s t e = let n : _≡_ {A = ℕ} 0 1 = cc in absurd (omega arith)
 
-pub narrow-is : (z t : ℤ) → narrowOf z ≡ In t → z ≡ t
-narrow-is z t e = held-is (in32 z) z t (sym (narrow-held z) ∙ e)
+kept-leaves : (b : Bool) (s : Sixteenths) → kept b s ≡ Across.Wide → b ≡ false
+unfolding if_then_else_
+kept-leaves true s e = cc
+kept-leaves false s e = refl
 
-pub narrow-leaves : (z : ℤ) → narrowOf z ≡ Wide → in32 z ≡ false
-narrow-leaves z e = held-leaves (in32 z) z (sym (narrow-held z) ∙ e)
+pub across-fits : (s t : Sixteenths) → acrossOf s ≡ Across.In t → sixteenthsFit s ≡ true
+unfolding acrossOf
+across-fits s t e = kept-fits (sixteenthsFit s) s t e
+
+pub across-is : (s t : Sixteenths) → acrossOf s ≡ Across.In t → s ≡ t
+unfolding acrossOf
+across-is s t e = kept-is (sixteenthsFit s) s t e
+
+pub across-leaves : (s : Sixteenths) → acrossOf s ≡ Across.Wide → sixteenthsFit s ≡ false
+unfolding acrossOf
+across-leaves s e = kept-leaves (sixteenthsFit s) s e
 
 -- Sums.
 
-plus-held : (a b : Bool) (y z : ℤ) → plusOf (held a y) (held b z) ≡ held (_and_ a (_and_ b (in32 (y +ℤ z)))) (y +ℤ z)
+plus-held : (a b : Bool) (y z : Q16) → plusOf (held a y) (held b z) ≡ held (_and_ a (_and_ b (stepsFit (y ⊞ z)))) (y ⊞ z)
 unfolding plusOf narrowOf if_then_else_ _and_
 plus-held true true y z = refl
 plus-held true false y z = refl
 plus-held false b y z = refl
 
-plus-in : (a : Bool) (y z : ℤ) → plusOf (held a y) (In z) ≡ held (_and_ a (in32 (y +ℤ z))) (y +ℤ z)
+plus-in : (a : Bool) (y z : Q16) → plusOf (held a y) (In z) ≡ held (_and_ a (stepsFit (y ⊞ z))) (y ⊞ z)
 unfolding plusOf narrowOf if_then_else_ _and_
 plus-in true y z = refl
 plus-in false y z = refl
@@ -84,16 +109,16 @@ unfolding _and_
 and-assoc true b c = refl
 and-assoc false b c = refl
 
-pub line-chain : (v : ℤ) (p q k : Q16) (x y : ℤ) → plusOf (plusOf (plusOf (narrowOf (v *ℤ pos one)) (narrowOf (p .0 *ℤ x))) (narrowOf (q .0 *ℤ y))) (In (k .0)) ≡ lineOf v p q k x y
+pub line-chain : (v : ℤ) (p q k : Q16) (x y : ℤ) → plusOf (plusOf (plusOf (narrowOf (wholeSteps v)) (narrowOf (p · x))) (narrowOf (q · y))) (In k) ≡ lineOf v p q k x y
 unfolding lineOf lineFits line
 line-chain v p q k x y = simp (narrow-held, plus-held, plus-in, and-assoc)
 
-pub nudge-chain : (p q k : Q16) (x y : ℤ) → plusOf (plusOf (plusOf (narrowOf (p .0 *ℤ x)) (narrowOf (q .0 *ℤ y))) (In (k .0))) (In (pos half)) ≡ nudgeOf p q k x y
+pub nudge-chain : (p q k : Q16) (x y : ℤ) → plusOf (plusOf (plusOf (narrowOf (p · x)) (narrowOf (q · y))) (In k)) (In half) ≡ nudgeOf p q k x y
 unfolding nudgeOf nudgeFits nudge
 nudge-chain p q k x y = simp (narrow-held, plus-held, plus-in, and-assoc)
 
 -- whether there is a number
-pub line-told-in : (v : ℤ) (p q k : Q16) (x y t : ℤ) → lineOf v p q k x y ≡ In t → lineFits v p q k x y ≡ true
+pub line-told-in : (v : ℤ) (p q k : Q16) (x y : ℤ) (t : Q16) → lineOf v p q k x y ≡ In t → lineFits v p q k x y ≡ true
 unfolding lineOf
 line-told-in v p q k x y t e = held-fits _ _ t e
 
@@ -109,7 +134,7 @@ pub not-applied : (c : Cal) (x y : ℤ) → mapFits c x y ≡ false → Apply.Re
 unfolding mapFits bothFit applyOf
 not-applied c x y h = sym (if-false _ _ _ h)
 
-placed-held : (p : Point) (a b : Bool) (u v : ℤ) → placedOf p (held a u) (held b v) ≡ if_then_else_ (_and_ a b) (Screen.Answered (record { x = moved (width - 1) (p .x) u; y = moved (height - 1) (p .y) v })) (Screen.Refused Refusal.Wide)
+placed-held : (p : Point) (a b : Bool) (u v : Q16) → placedOf p (held a u) (held b v) ≡ if_then_else_ (_and_ a b) (Screen.Answered (record { x = moved (width - 1) (p .x) u; y = moved (height - 1) (p .y) v })) (Screen.Refused Refusal.Wide)
 unfolding placedOf if_then_else_ _and_
 placed-held p true true u v = refl
 placed-held p true false u v = refl

@@ -17,13 +17,13 @@ use Rattle.calmap.specs.Resids.{missesOf, spreadBy, residBy, residFirstB
 use Rattle.calmap.specs.Sizes.{longest}
 use Rattle.calmap.specs.declared.limits.CheckAnswer.the-variants as Check
 use Rattle.calmap.specs.declared.residuals.ResidAnswer.the-variants as Resid
+use Rattle.calmap.specs.declared.units.Aim.{Aim}
 use Rattle.calmap.specs.declared.units.Cal.{Cal}
-use Rattle.calmap.specs.declared.units.Pair.{Pair}
 
 not-long : {A : Type 0} (n : ℕ) (xs : List A) → n ≤ longest → (longest <? length (take n xs)) ≡ false
 not-long n xs h = le-ltb longest (length (take n xs)) (rw length-take (omega arith))
 
-module _ (rule : Rule) (c : Cal) (n : ℕ) (ps : List Pair) where
+module _ (rule : Rule) (c : Cal) (n : ℕ) (ps : List Aim) where
   pub resid-long : longest < n → residFirstBy rule c n ps ≡ Resid.Refused Refusal.Long
   unfolding residFirstBy
   resid-long h = if-true _ _ _ (lt-ltb _ _ h)

@@ -16,7 +16,9 @@ use mir.ValLaws.{toZ-ofZ, sfits-le}
 use borrow.Author.Tests.{ltb-true}
 use Rattle.calmap.specs.Screening.{clamp}
 use Rattle.calmap.specs.Sizes.{end32, sixteen}
+use Rattle.calmap.specs.Units.{downSixteen}
 use Rattle.calmap.specs.Wide.{floorDiv, down}
+use Rattle.calmap.specs.declared.units.Q16.{Q16}
 use Rattle.calmap.proofs.Signed.{mag-add}
 
 down-shr : (z : ℤ) (places : ℕ) → shrZ z (2 ^ places) ≡ down places z
@@ -71,8 +73,8 @@ down-size places (pos n) = refl
 down-size places (negsuc n) = refl
 
 -- what `screen` adds to a coordinate, and the sum
-pub moved-fits : (v : ℕ) (s : ℤ) → v < 65536 → mag s < end32 → mag (pos v +ℤ down sixteen s) < end32
-moved-fits v s hv hs = omega (arith, mag-add (pos v) (down sixteen s), down-size sixteen s)
+pub moved-fits : (v : ℕ) (s : Q16) → v < 65536 → mag (s .0) < end32 → mag (pos v +ℤ downSixteen s) < end32
+moved-fits v s hv hs = omega (arith, mag-add (pos v) (downSixteen s), down-size sixteen (s .0))
 
 -- held to 0..last: from below, within, from above
 

@@ -13,11 +13,11 @@ use Rattle.panel.proofs.Follow.{if-true, if-false, and-true, and-false}
 use Rattle.panel.specs.Tests.{_and_, _<?_}
 use Rattle.panel.specs.declared.points.Point.{Point}
 use Rattle.calmap.specs.Checks.{checkOf, checkFirst}
-use Rattle.calmap.specs.Held.{filled, tap0, point0, heldTaps, heldPoints, heldPairs, pairUp, putTap, putPoint, residHeld, checkHeld}
 use Rattle.calmap.specs.Resids.{pairsOf, residOf, residBy, residFirstBy}
 use Rattle.calmap.specs.Sizes.{longest}
+use Rattle.calmap.specs.code.Arrays.{filled, tap0, point0, heldTaps, heldPoints, heldPairs, pairUp, putTap, putPoint, residHeld, checkHeld}
+use Rattle.calmap.specs.declared.units.Aim.{Aim}
 use Rattle.calmap.specs.declared.units.Cal.{Cal}
-use Rattle.calmap.specs.declared.units.Pair.{Pair}
 use Rattle.calmap.specs.declared.units.Tap.{Tap}
 
 -- The array.
@@ -98,7 +98,7 @@ module _ (ps : List Point) (p : Point) where
   pub put-point : putPoint (heldPoints ps) p ≡ heldPoints (ps ++ (p ∷ []))
   put-point = by-length ps point-more point-past
 
--- Pairs.
+-- Aims.
 
 pub pairs-length : (a b : List Tap) → length (pairsOf a b) ≡ min (length a) (length b)
 unfolding pairsOf
@@ -106,7 +106,7 @@ pairs-length [] b = omega arith
 pairs-length (x ∷ a) [] = omega arith
 pairs-length (x ∷ a) (y ∷ b) = let e = pairs-length a b in omega arith
 
-pub pairs-at : (a b : List Tap) (i : ℕ) (d : Pair) → i < length a → i < length b → getD (pairsOf a b) i d ≡ record { raw = getD a i tap0; tgt = getD b i tap0 }
+pub pairs-at : (a b : List Tap) (i : ℕ) (d : Aim) → i < length a → i < length b → getD (pairsOf a b) i d ≡ record { raw = getD a i tap0; tgt = getD b i tap0 }
 unfolding pairsOf
 pairs-at [] b i d h k = absurd (not-suc-le-zero h)
 pairs-at (x ∷ a) [] i d h k = absurd (not-suc-le-zero k)
@@ -118,7 +118,7 @@ unfolding pairsOf
 pairs-take zero a b = refl
 pairs-take (suc n) [] b = refl
 pairs-take (suc n) (x ∷ a) [] = refl
-pairs-take (suc n) (x ∷ a) (y ∷ b) = ap (λ (l : List Pair). record { raw = x; tgt = y } ∷ l) (pairs-take n a b)
+pairs-take (suc n) (x ∷ a) (y ∷ b) = ap (λ (l : List Aim). record { raw = x; tgt = y } ∷ l) (pairs-take n a b)
 
 -- What is held of a list, in document 01's terms: whether it is too long; and if not, all of it, under its count.
 

@@ -10,16 +10,19 @@ use borrow.Author.Tests.{ltb-true}
 use Rattle.calmap.specs.Distances.{square, tenthsOf}
 use Rattle.calmap.specs.Maps.{applyOf}
 use Rattle.calmap.specs.Roots.{rootOf}
-use Rattle.calmap.specs.Sizes.{sixteen, sixteenthsIn, hundred}
+use Rattle.calmap.specs.Sizes.{sixteenthsIn, hundred}
+use Rattle.calmap.specs.Units.{stepsFit, downSixteen}
 use Rattle.calmap.specs.Wide.{in32, down}
 use Rattle.calmap.specs.declared.mapping.ApplyAnswer.the-variants.{Answered}
 use Rattle.calmap.specs.declared.mapping.Spot.{Spot}
 use Rattle.calmap.specs.declared.units.Cal.{Cal}
+use Rattle.calmap.specs.declared.units.Q16.{Q16}
+use Rattle.calmap.specs.declared.units.Tenths.{Tenths}
 use Rattle.calmap.proofs.Bounds as Bounds
 use Rattle.calmap.proofs.Floors as Floors
 use Rattle.calmap.proofs.Rooted as Rooted
 use Rattle.calmap.proofs.Signed.{in32-yes}
-use Rattle.calmap.proofs.Tenths as Tenths
+use Rattle.calmap.proofs.Tenths as Telling
 
 -- Squares.
 
@@ -54,20 +57,20 @@ module _ (v : ℕ) (h : v < 2 ^ 64) where
 -- The tenths.
 
 module _ (d2 : ℕ) (h : d2 < 2 ^ 64) where
-  pub tenths-below : square (sixteenthsIn * tenthsOf d2) ≤ hundred * d2
-  tenths-below = Tenths.tenths-are d2 h .below
+  pub tenths-below : square (sixteenthsIn * tenthsOf d2 .0) ≤ hundred * d2
+  tenths-below = Telling.tenths-are d2 h .below
 
-  pub tenths-above : hundred * d2 < square (sixteenthsIn * (tenthsOf d2 + 1))
-  tenths-above = Tenths.tenths-are d2 h .above
+  pub tenths-above : hundred * d2 < square (sixteenthsIn * (tenthsOf d2 .0 + 1))
+  tenths-above = Telling.tenths-are d2 h .above
 
-  pub tenths-only : (t : ℕ) → square (sixteenthsIn * t) ≤ hundred * d2 → hundred * d2 < square (sixteenthsIn * (t + 1)) → t ≡ tenthsOf d2
-  tenths-only t lo hi = Tenths.one-tenths {d2 = d2} (record { below = lo; above = hi }) (Tenths.tenths-are d2 h)
+  pub tenths-only : (t : Tenths) → square (sixteenthsIn * t .0) ≤ hundred * d2 → hundred * d2 < square (sixteenthsIn * (t .0 + 1)) → t ≡ tenthsOf d2
+  tenths-only t lo hi = Telling.one-tenths {d2 = d2} (record { below = lo; above = hi }) (Telling.tenths-are d2 h)
 
-  pub tenths-at-least : (t : ℕ) → square (sixteenthsIn * t) ≤ hundred * d2 → t ≤ tenthsOf d2
-  tenths-at-least t lo = Tenths.tenths-at-least d2 h t lo
+  pub tenths-at-least : (t : ℕ) → square (sixteenthsIn * t) ≤ hundred * d2 → t ≤ tenthsOf d2 .0
+  tenths-at-least t lo = Telling.tenths-at-least d2 h t lo
 
-  pub tenths-at-most : (t : ℕ) → hundred * d2 < square (sixteenthsIn * (t + 1)) → tenthsOf d2 ≤ t
-  tenths-at-most t over = Tenths.tenths-at-most d2 h t over
+  pub tenths-at-most : (t : ℕ) → hundred * d2 < square (sixteenthsIn * (t + 1)) → tenthsOf d2 .0 ≤ t
+  tenths-at-most t over = Telling.tenths-at-most d2 h t over
 
 -- The shift: with m for 2 ^ places and q for what is left, m·q ≤ z < m·(q + 1).
 
@@ -79,9 +82,9 @@ down-above places z = Floors.down-above places z
 
 -- `screen` adds to a coordinate of 16 bits what is left of an i32, shifted down sixteen: that is in i32, so there is no
 -- third way to be WIDE.
-pub moved-in32 : (v : ℕ) (s : ℤ) → v < 65536 → in32 s ≡ true → in32 (pos v +ℤ down sixteen s) ≡ true
+pub moved-in32 : (v : ℕ) (s : Q16) → v < 65536 → stepsFit s ≡ true → in32 (pos v +ℤ downSixteen s) ≡ true
 unfolding in32
-moved-in32 v s hv hs = in32-yes (pos v +ℤ down sixteen s) (Floors.moved-fits v s hv (ltb-true _ _ hs))
+moved-in32 v s hv hs = in32-yes (pos v +ℤ downSixteen s) (Floors.moved-fits v s hv (ltb-true _ _ hs))
 
 -- Where a point lands: within 19 bits each way. So the distances of `resid` fit, and so does a target's shift in `check`.
 pub lands : (c : Cal) (x y : ℤ) (s : Spot) → applyOf c x y ≡ Answered s → Bounds.Lands s

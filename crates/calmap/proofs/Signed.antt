@@ -6,7 +6,7 @@ use mathlib.Core.Bool.{Bool, true, false, cond, not}
 use native.Mathlib.Nat.{le-refl, le-trans, le-suc, mul-le-mul}
 use native.Mathlib.Omega.{arith}
 use lib.Dec.{T, leb, ltb, ltb→lt, nltb→le}
-use lib.IntN.{ℤ, pos, negsuc, negℤ, natAbs, _+ℤ_, _-ℤ_, _*ℤ_}
+use lib.IntN.{ℤ, pos, negsuc, negℤ, natAbs, _+ℤ_, _-ℤ_, _*ℤ_, +ℤ-idl}
 use lib.Signed.{mag, ltZ, leZ}
 use mir.Syntax.{w16, w32, w64}
 use mir.Val.{toZ, ofZ, SFits}
@@ -107,6 +107,26 @@ module _ (n : ℕ) where
   pub abs-up-to : (z : ℤ) → ltZ z (negsuc n) ≡ false → leZ z (pos (suc n)) ≡ leb (natAbs z) (suc n)
   abs-up-to (pos k) h = refl
   abs-up-to (negsuc k) h = let l = nltb→le n k (subst (λ (b : Bool). T (not b)) (sym h) tt) in sym (le-leb (suc k) (suc n) (omega arith))
+
+-- and within a limit over 0, whose negative the code works out
+less : (n : ℕ) → pos 0 -ℤ pos (suc n) ≡ negsuc n
+less n = +ℤ-idl (negsuc n)
+
+module _ (m : ℤ) (over : ((n : ℕ) × (m ≡ pos (suc n)))) where
+  pub limit-turns : SFits w32 m → SFits w32 (pos 0 -ℤ m)
+  limit-turns =
+      let n = over .0 in
+      subst (λ (k : ℤ). SFits w32 k → SFits w32 (pos 0 -ℤ k)) (sym (over .1)) (λ f. subst (SFits w32) (sym (less n)) (record { sfits = omega (arith, f .sfits) }))
+
+  pub out-of-limit : (z : ℤ) → ltZ z (pos 0 -ℤ m) ≡ true → leb (natAbs z) (natAbs m) ≡ false
+  out-of-limit z =
+      let n = over .0 in
+      subst (λ (k : ℤ). ltZ z (pos 0 -ℤ k) ≡ true → leb (natAbs z) (natAbs k) ≡ false) (sym (over .1)) (λ h. abs-over n z (subst (λ (k : ℤ). ltZ z k ≡ true) (less n) h))
+
+  pub up-to-limit : (z : ℤ) → ltZ z (pos 0 -ℤ m) ≡ false → leZ z m ≡ leb (natAbs z) (natAbs m)
+  up-to-limit z =
+      let n = over .0 in
+      subst (λ (k : ℤ). ltZ z (pos 0 -ℤ k) ≡ false → leZ z k ≡ leb (natAbs z) (natAbs k)) (sym (over .1)) (λ h. abs-up-to n z (subst (λ (k : ℤ). ltZ z k ≡ false) (less n) h))
 
 -- what leaves i32 is not within a limit below it
 pub abs-wide : (z : ℤ) (n : ℕ) → in32 z ≡ false → n < end32 → leb (natAbs z) n ≡ false

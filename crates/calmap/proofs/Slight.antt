@@ -10,11 +10,11 @@ use lib.Signed.{mag}
 use borrow.Author.Tests.{ltb-true, lt-ltb}
 use Rattle.panel.proofs.Follow.{and-true}
 use Rattle.panel.proofs.Laws.{and-left, and-right}
-use Rattle.panel.specs.Tests.{_and_}
-use Rattle.calmap.specs.Checked.{bothFit, mapFits, nearEnd, shortEnd, fewPixels, fewSteps, slight}
 use Rattle.calmap.specs.Maps.{line, lineFits}
 use Rattle.calmap.specs.Sizes.{end16, one}
-use Rattle.calmap.specs.Wide.{in32, in16}
+use Rattle.calmap.specs.Units.{wholeSteps, _·_, _⊞_, stepsFit}
+use Rattle.calmap.specs.Wide.{in16}
+use Rattle.calmap.specs.code.Checked.{bothFit, mapFits, nearEnd, shortEnd, fewPixels, fewSteps, small, slight}
 use Rattle.calmap.specs.declared.units.Cal.{Cal}
 use Rattle.calmap.specs.declared.units.Q16.{Q16}
 use Rattle.calmap.proofs.Signed.{mag-add, mag-mul, in32-yes}
@@ -40,7 +40,7 @@ unfolding in16
 few-in16 v h = let l : mag v < end16 = omega arith in lt-ltb _ _ l
 
 pub slight-fits : (c : Cal) (x y : ℤ) → slight c ≡ true → fewPixels x ≡ true → fewPixels y ≡ true → mapFits c x y ≡ true
-unfolding slight fewPixels fewSteps in16 mapFits bothFit
+unfolding slight fewPixels fewSteps small in16 mapFits bothFit
 slight-fits c x y h ex ey =
     let hx : mag x < nearEnd = ltb-true _ _ ex in
     let hy : mag y < nearEnd = ltb-true _ _ ey in
@@ -68,12 +68,12 @@ line-of-y c x y h = and-right _ _ (and-right _ _ (and-right _ _ h))
 
 -- each product and each partial sum of a line that fits
 pub record Fits (v : ℤ) (p q k : Q16) (x y : ℤ) : Type 0 where
-  pub whole : in32 (v *ℤ pos one) ≡ true
-  pub part : in32 (p .0 *ℤ x) ≡ true
-  pub both : in32 (v *ℤ pos one +ℤ p .0 *ℤ x) ≡ true
-  pub other : in32 (q .0 *ℤ y) ≡ true
-  pub three : in32 (v *ℤ pos one +ℤ p .0 *ℤ x +ℤ q .0 *ℤ y) ≡ true
-  pub all : in32 (v *ℤ pos one +ℤ p .0 *ℤ x +ℤ q .0 *ℤ y +ℤ k .0) ≡ true
+  pub whole : stepsFit (wholeSteps v) ≡ true
+  pub part : stepsFit (p · x) ≡ true
+  pub both : stepsFit (wholeSteps v ⊞ p · x) ≡ true
+  pub other : stepsFit (q · y) ≡ true
+  pub three : stepsFit (wholeSteps v ⊞ p · x ⊞ q · y) ≡ true
+  pub all : stepsFit (wholeSteps v ⊞ p · x ⊞ q · y ⊞ k) ≡ true
 
 pub apart : (v : ℤ) (p q k : Q16) (x y : ℤ) → lineFits v p q k x y ≡ true → Fits v p q k x y
 unfolding lineFits line

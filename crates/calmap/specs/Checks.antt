@@ -6,16 +6,16 @@
 use Prim.Native.Nat.{ℕ}
 use mathlib.Core.Bool.{Bool, true, false}
 use mathlib.Core.List.{List, [], _∷_}
-use lib.IntN.{pos, natAbs, _-ℤ_}
+use lib.IntN.{pos}
 use lib.ListN.{length, take}
 use Rattle.panel.specs.Points.{allOnPanel}
 use Rattle.panel.specs.Refusals.{Told, answered, refused}
-use Rattle.panel.specs.Tests.{if_then_else_, _and_, _≤?_, _<?_}
+use Rattle.panel.specs.Tests.{if_then_else_, _and_, _<?_}
 use Rattle.panel.specs.declared.points.Point.{Point}
 use Rattle.panel.specs.declared.refusals.Refusal.the-variants.{Long, Target}
 use Rattle.calmap.specs.Maps.{applyOf}
-use Rattle.calmap.specs.Resids.{inSixteenths}
 use Rattle.calmap.specs.Sizes.{longest, scaleLimit, shiftLimit}
+use Rattle.calmap.specs.Units.{stepsWithin, inSixteenths, _⊟_, sixteenthsWithin}
 use Rattle.calmap.specs.declared.limits.CheckAnswer.{CheckAnswer}
 use Rattle.calmap.specs.declared.limits.CheckAnswer.the-variants.{Answered, Refused}
 use Rattle.calmap.specs.declared.limits.Verdict.{Verdict}
@@ -27,7 +27,7 @@ use Rattle.calmap.specs.declared.units.Q16.{Q16}
 use Rattle.calmap.specs.declared.units.Sixteenths.{Sixteenths}
 
 unfoldable pub mild : Q16 → Bool
-mild q = natAbs (q .0) ≤? scaleLimit
+mild q = stepsWithin scaleLimit q
 
 -- a, b, d and e: the scales and the cross terms
 unfoldable pub scaleHolds : Cal → Bool
@@ -35,7 +35,7 @@ scaleHolds c = mild (c .c0) and mild (c .c1) and mild (c .c3) and mild (c .c4)
 
 -- a coordinate in whole pixels, and where it is moved to
 unfoldable pub near : Sixteenths → ℕ → Bool
-near s v = natAbs (s .0 -ℤ inSixteenths (pos v) .0) ≤? shiftLimit
+near s v = sixteenthsWithin shiftLimit (s ⊟ inSixteenths (pos v))
 
 -- a sum past i32 is too far as well
 abbrev pub lands : ApplyAnswer → Point → Bool

@@ -5,28 +5,28 @@
 -- The sum that is added to a coordinate needs no test: `moved-in32` of proofs/Laws.antt says that it is always in i32.
 use Prim.Native.Nat.{ℕ, _-_, min}
 use mathlib.Core.Bool.{Bool}
-use lib.IntN.{ℤ, pos, negsuc, _+ℤ_, _*ℤ_}
+use lib.IntN.{ℤ, pos, negsuc, _+ℤ_}
 use Rattle.panel.specs.Refusals.{Told, answered, refused}
 use Rattle.panel.specs.Sizes.{width, height}
 use Rattle.panel.specs.Tests.{if_then_else_, _and_}
 use Rattle.panel.specs.declared.points.Point.{Point}
 use Rattle.panel.specs.declared.refusals.Refusal.the-variants.{Wide}
-use Rattle.calmap.specs.Sizes.{half, sixteen}
-use Rattle.calmap.specs.Wide.{in32, down}
+use Rattle.calmap.specs.Sizes.{half}
+use Rattle.calmap.specs.Units.{_·_, _⊞_, stepsFit, downSixteen}
 use Rattle.calmap.specs.declared.screens.ScreenAnswer.{ScreenAnswer}
 use Rattle.calmap.specs.declared.screens.ScreenAnswer.the-variants.{Answered, Refused}
 use Rattle.calmap.specs.declared.units.Cal.{Cal}
 use Rattle.calmap.specs.declared.units.Q16.{Q16}
 
 -- p·x + q·y + k + 32768
-unfoldable pub nudge : Q16 → Q16 → Q16 → ℤ → ℤ → ℤ
-nudge p q k x y = p .0 *ℤ x +ℤ q .0 *ℤ y +ℤ k .0 +ℤ pos half
+unfoldable pub nudge : Q16 → Q16 → Q16 → ℤ → ℤ → Q16
+nudge p q k x y = p · x ⊞ q · y ⊞ k ⊞ half
 
 -- each of its products, and each partial sum from the left, is in i32
 unfoldable pub nudgeFits : Q16 → Q16 → Q16 → ℤ → ℤ → Bool
 nudgeFits p q k x y =
-    in32 (p .0 *ℤ x) and in32 (q .0 *ℤ y) and in32 (p .0 *ℤ x +ℤ q .0 *ℤ y)
-    and in32 (p .0 *ℤ x +ℤ q .0 *ℤ y +ℤ k .0) and in32 (nudge p q k x y)
+    stepsFit (p · x) and stepsFit (q · y) and stepsFit (p · x ⊞ q · y)
+    and stepsFit (p · x ⊞ q · y ⊞ k) and stepsFit (nudge p q k x y)
 
 -- held to 0..last
 abbrev pub clamp : ℕ → ℤ → ℕ
@@ -34,8 +34,8 @@ clamp last (pos n) = min n last
 clamp last (negsuc n) = 0
 
 -- a coordinate moved by so many steps
-unfoldable pub moved : ℕ → ℕ → ℤ → ℕ
-moved last v s = clamp last (pos v +ℤ down sixteen s)
+unfoldable pub moved : ℕ → ℕ → Q16 → ℕ
+moved last v s = clamp last (pos v +ℤ downSixteen s)
 
 unfoldable pub screenOf : Cal → Point → ScreenAnswer
 screenOf c p =

@@ -1,5 +1,8 @@
 -- The numbers of documents 01 and 02 that the integer half of the calibration turns on, each written here and nowhere else.
 use Prim.Native.Nat.{ℕ}
+use lib.IntN.{pos}
+use Rattle.calmap.specs.declared.units.Q16.{Q16}
+use Rattle.calmap.specs.declared.units.Sixteenths.{Sixteenths}
 
 -- "leaves i32", "outside i16": how many there are below 0
 abbrev pub end32 : ℕ
@@ -17,8 +20,8 @@ abbrev pub twelve : ℕ
 twelve = 12
 
 -- "+ 32768, .. down sixteen"
-abbrev pub half : ℕ
-half = 32768
+abbrev pub half : Q16
+half = record { 0 = pos 32768 }
 
 abbrev pub sixteen : ℕ
 sixteen = 16
@@ -35,9 +38,9 @@ abbrev pub longest : ℕ
 longest = 64
 
 -- "a, b, d, e deltas within ±9830"
-abbrev pub scaleLimit : ℕ
-scaleLimit = 9830
+abbrev pub scaleLimit : Q16
+scaleLimit = record { 0 = pos 9830 }
 
 -- "each target's shift at most 640 sixteenths each way"
-abbrev pub shiftLimit : ℕ
-shiftLimit = 640
+abbrev pub shiftLimit : Sixteenths
+shiftLimit = record { 0 = pos 640 }

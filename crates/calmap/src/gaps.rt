@@ -1,8 +1,8 @@
 // How far two places are apart, in tenths of a pixel.
 ghost use mathlib.Core.Path.{_≡_};
-ghost use Rattle.calmap.specs.Distances.{gapOf, tenthsOf, tenths, dist10Of};
+ghost use Rattle.calmap.specs.Distances.{gapOf, tenthsOf, dist10Of};
 use crate::checked;
-use crate::checked::Narrow;
+use crate::checked::Across;
 use crate::roots;
 use crate::units::Sixteenths;
 use crate::units::Tenths;
@@ -25,19 +25,19 @@ pub enum Dist10Answer {
 pub fn gap_between(ax: Sixteenths, ay: Sixteenths, bx: Sixteenths, by: Sixteenths) -> Gap
     ensures { λ r. ⌜ r ≡ gapOf ax ay bx by ⌝ }
 {
-    let Narrow::In(dx) = checked::minus(ax, bx) else {
+    let Across::In(dx) = checked::minus(ax, bx) else {
         return Gap::Wide;
     };
-    let Narrow::In(dy) = checked::minus(ay, by) else {
+    let Across::In(dy) = checked::minus(ay, by) else {
         return Gap::Wide;
     };
-    Gap::Squared(panel::square(dx) + panel::square(dy))
+    Gap::Squared(panel::square(dx.0) + panel::square(dy.0))
 }
 
 // A squared distance in sixteenths of a pixel, as a distance in tenths: the largest t with 16t * 16t <= 100 * d2, which
 // is t * t <= 25 * d2 / 64. That is no more than d2, and is worked out so that no product on the way to it passes 64 bits.
 pub(crate) fn in_tenths(d2: u64) -> Tenths
-    ensures { λ r. ⌜ r ≡ tenths (tenthsOf d2) ⌝ }
+    ensures { λ r. ⌜ r ≡ tenthsOf d2 ⌝ }
 {
     Tenths(roots::isqrt(25 * (d2 >> 6) + (25 * (d2 & 63) >> 6)) as u32)
 }

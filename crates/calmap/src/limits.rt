@@ -1,12 +1,14 @@
 // The limits that a calibration has to keep: its scales and cross terms, and how far it moves a target.
 ghost use mathlib.Core.Path.{_≡_};
-ghost use Prim.Native.Nat.{_≤_};
+ghost use Prim.Native.Nat.{ℕ, suc, _≤_};
+ghost use lib.IntN.{pos};
 ghost use lib.ListN.{take};
 ghost use Rattle.panel.specs.Points.{allOnPanel};
 ghost use Rattle.calmap.specs.Sizes.{longest};
+ghost use Rattle.calmap.specs.Units.{stepsWithin, sixteenthsWithin};
 ghost use Rattle.calmap.specs.Checks.{mild, scaleHolds, near, stays, allStay, verdictOf, checkFirst};
 use crate::checked;
-use crate::checked::Narrow;
+use crate::checked::Across;
 use crate::mapping;
 use crate::pixels;
 use crate::units::Cal;
@@ -32,22 +34,43 @@ pub enum CheckAnswer {
     Refused(Refusal),
 }
 
-// Scales and cross terms are within this of the identity's, in steps: 0.15, cut to a whole number.
-const MAX_SCALE_DEV: i32 = 9830;
+// Scales and cross terms are within this of the identity's: 0.15, cut to a whole number.
+const MAX_SCALE_DEV: Q16 = Q16(9830);
 
-// A target is moved by at most this each way, in sixteenths: 40 pixels.
-const MAX_SHIFT: i32 = 640;
+// A target is moved by at most this each way: 40 pixels.
+const MAX_SHIFT: Sixteenths = Sixteenths(640);
 
-// Whether a scale or a cross term is near the identity's. The most negative i32, which has no abs in
-// i32, is not.
+// Whether steps are at most so many each way. Two tests, since the most negative i32 has no abs in i32.
+fn steps_within(most: Q16, q: Q16) -> bool
+    requires { ⌜ ((n : ℕ) × (most .0 ≡ pos (suc n))) ⌝ }
+    ensures { λ r. ⌜ r ≡ stepsWithin most q ⌝ }
+{
+    let v = q.0;
+    let m = most.0;
+    if v < -m {
+        return false;
+    }
+    v <= m
+}
+
+// The same of sixteenths.
+fn sixteenths_within(most: Sixteenths, s: Sixteenths) -> bool
+    requires { ⌜ ((n : ℕ) × (most .0 ≡ pos (suc n))) ⌝ }
+    ensures { λ r. ⌜ r ≡ sixteenthsWithin most s ⌝ }
+{
+    let v = s.0;
+    let m = most.0;
+    if v < -m {
+        return false;
+    }
+    v <= m
+}
+
+// Whether a scale or a cross term is near the identity's.
 fn is_mild(q: Q16) -> bool
     ensures { λ r. ⌜ r ≡ mild q ⌝ }
 {
-    let v = q.0;
-    if v < -MAX_SCALE_DEV {
-        return false;
-    }
-    v <= MAX_SCALE_DEV
+    steps_within(MAX_SCALE_DEV, q)
 }
 
 // Whether a, b, d and e are: the shifts c and f are held to the targets instead.
@@ -68,13 +91,10 @@ fn scale_holds(c: Cal) -> bool
 fn is_near(s: Sixteenths, v: u16) -> bool
     ensures { λ r. ⌜ r ≡ near s v ⌝ }
 {
-    let Narrow::In(d) = checked::minus(s, pixels::point_in_16(v)) else {
+    let Across::In(d) = checked::minus(s, pixels::point_in_16(v)) else {
         return false;
     };
-    if d < -MAX_SHIFT {
-        return false;
-    }
-    d <= MAX_SHIFT
+    sixteenths_within(MAX_SHIFT, d)
 }
 
 // Whether a target is moved to a place that is near. A sum past i32 is not near.

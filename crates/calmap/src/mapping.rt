@@ -2,8 +2,9 @@
 ghost use mathlib.Core.Path.{_≡_};
 ghost use mathlib.Core.Bool.{true};
 ghost use Rattle.calmap.specs.Wide.{in16};
+ghost use Rattle.calmap.specs.Units.{downTwelve};
 ghost use Rattle.calmap.specs.Maps.{line, lineFits, applyOf};
-ghost use Rattle.calmap.specs.Checked.{lineOf, bothFit, mapFits, spotOf, fewPixels, fewSteps, slight};
+ghost use Rattle.calmap.specs.code.Checked.{lineOf, bothFit, mapFits, spotOf, fewPixels, fewSteps, small, slight};
 use crate::checked;
 use crate::checked::Narrow;
 use crate::units::Cal;
@@ -19,14 +20,11 @@ pub enum ApplyAnswer {
     Refused(Refusal),
 }
 
-// Steps in a whole: a coefficient of 1.
-const ONE: i32 = 65536;
-
 // Pixels, and steps of a shift, each way. With fewer of them, and with coefficients of i16, the products and k are
 // below 2^29 and a little, 2^28, 2^28 and 2^29, and no sum of them leaves i32.
 const NEAR: i32 = 8192;
 
-const SHORT: i32 = 536870912;
+const SHORT: Q16 = Q16(536870912);
 
 // Whether v is one of i16.
 fn in_i16(v: i32) -> bool
@@ -42,9 +40,9 @@ fn in_i16(v: i32) -> bool
 fn line(v: i32, p: Q16, q: Q16, k: Q16, x: i32, y: i32) -> Narrow
     ensures { λ r. ⌜ r ≡ lineOf v p q k x y ⌝ }
 {
-    let a = checked::plus(checked::times(v, ONE), checked::scaled(p, x));
+    let a = checked::plus(checked::whole(v), checked::scaled(p, x));
     let b = checked::plus(a, checked::scaled(q, y));
-    checked::plus(b, checked::steps(k))
+    checked::plus(b, Narrow::In(k))
 }
 
 // Whether none of its products and partial sums leaves i32.
@@ -86,18 +84,26 @@ fn few_steps(q: Q16) -> bool
     ensures { λ r. ⌜ r ≡ fewSteps q ⌝ }
 {
     let v = q.0;
-    if v < -SHORT {
+    if v < -SHORT.0 {
         return false;
     }
-    v < SHORT
+    v < SHORT.0
+}
+
+// Whether a scale or a cross term is less than a half off.
+fn is_small(q: Q16) -> bool
+    ensures { λ r. ⌜ r ≡ small q ⌝ }
+{
+    in_i16(q.0)
 }
 
 // Whether a calibration is slight: scales and cross terms less than a half off, and shifts not far. What `check`
-// passes at a target is.
+// passes at a target is. Its tests are joined by `&`, where others are nested: nested, `apply16` and a fit take more
+// instructions.
 fn is_slight(c: Cal) -> bool
     ensures { λ r. ⌜ r ≡ slight c ⌝ }
 {
-    let scales = in_i16(c.c0.0) & in_i16(c.c1.0) & in_i16(c.c3.0) & in_i16(c.c4.0);
+    let scales = is_small(c.c0) & is_small(c.c1) & is_small(c.c3) & is_small(c.c4);
     scales & few_steps(c.c2) & few_steps(c.c5)
 }
 
@@ -119,23 +125,30 @@ pub(crate) fn fits(c: Cal, x: i32, y: i32) -> bool
 }
 
 // v·65536 + p·x + q·y + k where it fits.
-fn line_at(v: i32, p: Q16, q: Q16, k: Q16, x: i32, y: i32) -> i32
+fn line_at(v: i32, p: Q16, q: Q16, k: Q16, x: i32, y: i32) -> Q16
     requires { ⌜ lineFits v p q k x y ≡ true ⌝ }
     ensures { λ r. ⌜ r ≡ line v p q k x y ⌝ }
 {
-    let a = checked::sum(checked::product(v, ONE), checked::product(p.0, x));
-    let b = checked::sum(a, checked::product(q.0, y));
-    checked::sum(b, k.0)
+    let a = checked::sum_at(checked::whole_at(v), checked::scaled_at(p, x));
+    let b = checked::sum_at(a, checked::scaled_at(q, y));
+    checked::sum_at(b, k)
 }
 
-// The place of (x, y) through c: down by twelve places each, toward minus infinity.
+// Steps down by twelve places, toward minus infinity, are sixteenths.
+fn down_twelve(q: Q16) -> Sixteenths
+    ensures { λ r. ⌜ r ≡ downTwelve q ⌝ }
+{
+    Sixteenths(q.0 >> 12)
+}
+
+// The place of (x, y) through c.
 pub(crate) fn spot_at(c: Cal, x: i32, y: i32) -> Spot
     requires { ⌜ mapFits c x y ≡ true ⌝ }
     ensures { λ r. ⌜ r ≡ spotOf c x y ⌝ }
 {
     let u = line_at(x, c.c0, c.c1, c.c2, x, y);
     let v = line_at(y, c.c3, c.c4, c.c5, x, y);
-    Spot(Sixteenths(u >> 12), Sixteenths(v >> 12))
+    Spot(down_twelve(u), down_twelve(v))
 }
 
 // The point (x, y) through c, in sixteenths of a pixel, held to nothing.

@@ -1,7 +1,7 @@
 // Whole pixels, as numbers to compute with and as sixteenths.
 ghost use mathlib.Core.Path.{_≡_};
 ghost use lib.IntN.{pos};
-ghost use Rattle.calmap.specs.Resids.{inSixteenths};
+ghost use Rattle.calmap.specs.Units.{inSixteenths};
 use crate::units::Sixteenths;
 
 pub(crate) fn of_u16(v: u16) -> i32

@@ -1,16 +1,17 @@
 // How far taps land from their targets, through a calibration.
 ghost use mathlib.Core.Path.{_≡_};
-ghost use Prim.Native.Nat.{_≤_, max};
+ghost use Prim.Native.Nat.{_+_, _≤_, _<_};
+ghost use Rattle.calmap.specs.Units.{fartherOf, togetherOf};
 ghost use Rattle.calmap.specs.Resids.{missOf, residFirst};
-ghost use Rattle.calmap.specs.Checked.{farthest, squareIn};
+ghost use Rattle.calmap.specs.code.Checked.{farthest, squareIn};
 use crate::gaps;
 use crate::gaps::Gap;
 use crate::mapping;
 use crate::mapping::ApplyAnswer;
 use crate::pixels;
+use crate::units::Aim;
 use crate::units::Cal;
 use crate::units::MAX_TAPS;
-use crate::units::Pair;
 use crate::units::Tenths;
 use panel::Refusal;
 
@@ -25,16 +26,24 @@ pub enum ResidAnswer {
     Refused(Refusal),
 }
 
-// The larger of two numbers.
-pub fn larger(a: u32, b: u32) -> u32
-    ensures { λ r. ⌜ r ≡ max a b ⌝ }
+// The larger of two distances.
+pub fn farther(a: Tenths, b: Tenths) -> Tenths
+    ensures { λ r. ⌜ r ≡ fartherOf a b ⌝ }
 {
-    if a <= b { b } else { a }
+    Tenths(panel::larger(a.0, b.0))
+}
+
+// Their sum.
+fn together(a: Tenths, b: Tenths) -> Tenths
+    requires { ⌜ a .0 + b .0 < 4294967296 ⌝ }
+    ensures { λ r. ⌜ r ≡ togetherOf a b ⌝ }
+{
+    Tenths(a.0 + b.0)
 }
 
 // How far a tap lands from its target, squared. It lands within 2^19 sixteenths of 0 each way, and its target is there
 // too.
-pub fn miss(c: Cal, p: Pair) -> Gap
+pub fn miss(c: Cal, p: Aim) -> Gap
     ensures { λ r. ⌜ (r ≡ missOf c p) × (squareIn r ≤ farthest) ⌝ }
 {
     let raw = p.raw;
@@ -48,7 +57,7 @@ pub fn miss(c: Cal, p: Pair) -> Gap
 
 // Mean and largest distance of the first n taps from their targets, through c. A distance is at most 1310720 tenths, so
 // that 64 of them fit a u32.
-pub fn resid_of(c: Cal, pairs: [Pair; MAX_TAPS], n: usize) -> ResidAnswer
+pub fn resid_of(c: Cal, pairs: [Aim; MAX_TAPS], n: usize) -> ResidAnswer
     ensures { λ r. ⌜ r ≡ residFirst c n pairs ⌝ }
 {
     if MAX_TAPS < n {
@@ -60,8 +69,8 @@ pub fn resid_of(c: Cal, pairs: [Pair; MAX_TAPS], n: usize) -> ResidAnswer
             max: Tenths(0),
         });
     }
-    let mut sum: u32 = 0;
-    let mut most: u32 = 0;
+    let mut sum = Tenths(0);
+    let mut most = Tenths(0);
     let mut i = 0;
     while i < n {
         let p = pairs[i];
@@ -69,12 +78,12 @@ pub fn resid_of(c: Cal, pairs: [Pair; MAX_TAPS], n: usize) -> ResidAnswer
             return ResidAnswer::Refused(Refusal::Wide);
         };
         let d = gaps::in_tenths(d2);
-        sum += d.0;
-        most = larger(most, d.0);
+        sum = together(sum, d);
+        most = farther(most, d);
         i += 1;
     }
     ResidAnswer::Answered(Spread {
-        mean: Tenths(sum / (n as u32)),
-        max: Tenths(most),
+        mean: Tenths(sum.0 / (n as u32)),
+        max: most,
     })
 }

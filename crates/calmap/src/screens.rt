@@ -1,10 +1,9 @@
 // A controller's point on the panel: through the calibration, rounded, and held to the panel.
 ghost use mathlib.Core.Path.{_≡_};
 ghost use lib.IntN.{pos, _+ℤ_};
-ghost use Rattle.calmap.specs.Sizes.{sixteen};
-ghost use Rattle.calmap.specs.Wide.{down};
+ghost use Rattle.calmap.specs.Units.{downSixteen};
 ghost use Rattle.calmap.specs.Screening.{clamp, moved, screenOf};
-ghost use Rattle.calmap.specs.Checked.{nudgeOf, placedOf};
+ghost use Rattle.calmap.specs.code.Checked.{nudgeOf, placedOf};
 use crate::checked;
 use crate::checked::Narrow;
 use crate::pixels;
@@ -28,15 +27,22 @@ fn nudge(p: Q16, q: Q16, k: Q16, x: i32, y: i32) -> Narrow
     ensures { λ r. ⌜ r ≡ nudgeOf p q k x y ⌝ }
 {
     let a = checked::plus(checked::scaled(p, x), checked::scaled(q, y));
-    let b = checked::plus(a, checked::steps(k));
-    checked::plus(b, checked::steps(HALF))
+    let b = checked::plus(a, Narrow::In(k));
+    checked::plus(b, Narrow::In(HALF))
+}
+
+// Steps down by sixteen places, toward minus infinity, are pixels.
+fn down_sixteen(q: Q16) -> i32
+    ensures { λ r. ⌜ r ≡ downSixteen q ⌝ }
+{
+    q.0 >> 16
 }
 
 // A coordinate moved by so many steps. It is at most 65535 and moved by at most 32768: the sum is an i32.
-fn moved_by(v: u16, s: i32) -> i32
-    ensures { λ r. ⌜ r ≡ pos v +ℤ down sixteen s ⌝ }
+fn moved_by(v: u16, s: Q16) -> i32
+    ensures { λ r. ⌜ r ≡ pos v +ℤ downSixteen s ⌝ }
 {
-    pixels::of_u16(v) + (s >> 16)
+    pixels::of_u16(v) + down_sixteen(s)
 }
 
 // m, held to 0..last.
@@ -54,7 +60,7 @@ fn clamped(m: i32, last: u16) -> u16
 }
 
 // A coordinate on the panel, whose last one is given.
-fn shifted(last: u16, v: u16, s: i32) -> u16
+fn shifted(last: u16, v: u16, s: Q16) -> u16
     ensures { λ r. ⌜ r ≡ moved last v s ⌝ }
 {
     clamped(moved_by(v, s), last)

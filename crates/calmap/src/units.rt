@@ -31,7 +31,7 @@ pub struct Tap {
 }
 
 // A raw tap and the target that it was meant for.
-pub struct Pair {
+pub struct Aim {
     pub raw: Tap,
     pub tgt: Tap,
 }

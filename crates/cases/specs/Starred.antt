@@ -7,6 +7,7 @@ use mathlib.Core.List.{List, [], _∷_}
 use lib.IntN.{ℤ, pos, negsuc}
 use Rattle.calmap.specs.Checks.{checkOf}
 use Rattle.calmap.specs.Maps.{spot, applyOf}
+use Rattle.calmap.specs.Units.{sixteenths}
 use Rattle.calmap.specs.declared.limits.CheckAnswer.the-variants as Check
 use Rattle.calmap.specs.declared.limits.Verdict.{Verdict}
 use Rattle.calmap.specs.declared.limits.Verdict.the-variants.{Pass, Shift}
@@ -47,7 +48,7 @@ Holds (silent before c) =
     (answerOf (after freshTracker before) c .refusal ≡ 0) × (answerOf (after freshTracker before) c .gesture ≡ Nothing)
 Holds (notes before c n p now) =
     (answerOf (after freshTracker before) c .gesture ≡ Nothing) × (answerOf (after freshTracker before) c .log ≡ line ascii-N n p now)
-Holds (applies c x y ax ay) = applyOf c (pos x) (pos y) ≡ Apply.Answered (spot ax ay)
+Holds (applies c x y ax ay) = applyOf c (pos x) (pos y) ≡ Apply.Answered (spot (sixteenths ax) (sixteenths ay))
 Holds (checks c targets v) = checkOf c targets ≡ Check.Answered v
 
 unfoldable pub AllHold : List Case → Type 0

@@ -1,10 +1,10 @@
 // The calibration: where a correction is too large, distances on both sides of a tenth, the fit of four corners onto
 // themselves, moved, and taps that have no fit.
 use crate::print;
+use calmap::Aim;
 use calmap::Cal;
 use calmap::CheckAnswer;
 use calmap::Dist10Answer;
-use calmap::Pair;
 use calmap::Q16;
 use calmap::Sixteenths;
 use calmap::Tap;
@@ -84,15 +84,15 @@ pub(crate) fn distances() {
 }
 
 // A corner, and where it should have been.
-fn corner(x: i16, y: i16, u: i16, v: i16) -> Pair {
-    Pair {
+fn corner(x: i16, y: i16, u: i16, v: i16) -> Aim {
+    Aim {
         raw: Tap { x, y },
         tgt: Tap { x: u, y: v },
     }
 }
 
 // The corners from (0, 0) to (100, 100) onto themselves, moved along x to left and right.
-fn corners(left: i16, right: i16) -> [Pair; 64] {
+fn corners(left: i16, right: i16) -> [Aim; 64] {
     let mut pairs = [corner(0, 0, 0, 0); 64];
     pairs[0] = corner(0, 0, left, 0);
     pairs[1] = corner(100, 0, right, 0);
@@ -102,7 +102,7 @@ fn corners(left: i16, right: i16) -> [Pair; 64] {
 }
 
 // The corners onto themselves, but for two that are opposite, moved by the same: the fit lies half way.
-fn two_corners(by: i16, down: i16, right: i16, below: i16) -> [Pair; 64] {
+fn two_corners(by: i16, down: i16, right: i16, below: i16) -> [Aim; 64] {
     let mut pairs = [corner(0, 0, 0, 0); 64];
     pairs[0] = corner(0, 0, by, down);
     pairs[1] = corner(100, 0, 100, 0);
@@ -136,7 +136,7 @@ fn steep(p: CoefPlace) {
 }
 
 // The fit of the first n of these pairs, held against one target.
-fn fit(pairs: [Pair; 64], n: usize) {
+fn fit(pairs: [Aim; 64], n: usize) {
     print::gives();
     let targets = [Point { x: 240, y: 160 }; 64];
     match touchcal::fit_of(pairs, n, targets, 1) {
@@ -147,13 +147,13 @@ fn fit(pairs: [Pair; 64], n: usize) {
     print::end();
 }
 
-fn moved(by: u64, pairs: [Pair; 64]) {
+fn moved(by: u64, pairs: [Aim; 64]) {
     print::word(b"fit, corners moved by");
     print::number(by);
     fit(pairs, 4);
 }
 
-fn two_moved(by: u64, down: u64, pairs: [Pair; 64]) {
+fn two_moved(by: u64, down: u64, pairs: [Aim; 64]) {
     print::word(b"fit, two corners moved by");
     print::number(by);
     print::number(down);
@@ -177,7 +177,7 @@ fn tap(t: Tap) {
 }
 
 // Two taps, and where they should have been.
-fn of_two(a: Pair, b: Pair) {
+fn of_two(a: Aim, b: Aim) {
     print::word(b"fit,");
     tap(a.raw);
     tap(b.raw);
@@ -189,7 +189,7 @@ fn of_two(a: Pair, b: Pair) {
     fit(pairs, 2);
 }
 
-fn of_three(a: Pair, b: Pair, c: Pair) {
+fn of_three(a: Aim, b: Aim, c: Aim) {
     print::word(b"fit,");
     tap(a.raw);
     tap(b.raw);

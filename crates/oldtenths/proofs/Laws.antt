@@ -5,15 +5,16 @@ use mathlib.Core.Path.{_≡_, refl, sym, ap, _∙_}
 use native.Mathlib.Nat.{le-refl, le-trans, lt-of-lt-of-le}
 use native.Mathlib.Omega.{arith}
 use Rattle.panel.specs.Tests.{if_then_else_}
-use Rattle.calmap.specs.Checked.{farthest, farthestTenths}
+use Rattle.calmap.specs.code.Checked.{farthest, farthestTenths}
 use Rattle.calmap.specs.Distances.{tenthsOf}
 use Rattle.calmap.specs.Roots.{digit, rootBy, rootOf}
 use Rattle.calmap.specs.Sizes.{sixteenthsIn}
+use Rattle.calmap.specs.Units.{tenths}
 use Rattle.calmap.proofs.Laws.{square-le, square-next, square-times, root-below, root-above, root-only, root-at-most, tenths-at-least, tenths-at-most, tenths-only}
 use Rattle.oldtenths.specs.OldTenths.{tenthsIn, oldTenthsOf}
 
 -- a tap's distance from its target is at most 1310720 tenths by them too
-pub old-of-miss : (d2 : ℕ) → d2 ≤ farthest → oldTenthsOf d2 ≤ farthestTenths
+pub old-of-miss : (d2 : ℕ) → d2 ≤ farthest → oldTenthsOf d2 .0 ≤ farthestTenths
 unfolding oldTenthsOf
 old-of-miss d2 h =
     let l = root-at-most d2 (omega arith) 2097152 h in
@@ -22,14 +23,14 @@ old-of-miss d2 h =
 -- The same, or one less.
 
 module _ (d2 : ℕ) (h : d2 < 2 ^ 64) where
-  pub old-at-most : oldTenthsOf d2 ≤ tenthsOf d2
+  pub old-at-most : oldTenthsOf d2 .0 ≤ tenthsOf d2 .0
   unfolding oldTenthsOf
   old-at-most =
       let r = rootOf d2 in
       let side : sixteenthsIn * (r * tenthsIn / sixteenthsIn) ≤ tenthsIn * r = omega arith in
       tenths-at-least d2 h _ (le-trans (square-le side) (omega (arith, square-times tenthsIn r, root-below d2 h)))
 
-  pub one-more-at-most : tenthsOf d2 ≤ oldTenthsOf d2 + 1
+  pub one-more-at-most : tenthsOf d2 .0 ≤ oldTenthsOf d2 .0 + 1
   unfolding oldTenthsOf
   one-more-at-most =
       let r = rootOf d2 in
@@ -45,8 +46,8 @@ same-at-roots r h =
     let o = r * tenthsIn / sixteenthsIn in
     let least : sixteenthsIn * o ≤ tenthsIn * r = omega arith in
     let most : tenthsIn * r + 1 ≤ sixteenthsIn * (o + 1) = omega arith in
-    ap (λ (x : ℕ). x * tenthsIn / sixteenthsIn) (sym exact)
-    ∙ tenths-only (r * r) h o (le-trans (square-le least) (omega (arith, square-times tenthsIn r))) (lt-of-lt-of-le (omega (arith, square-next (tenthsIn * r), square-times tenthsIn r)) (square-le most))
+    ap (λ (x : ℕ). tenths (x * tenthsIn / sixteenthsIn)) (sym exact)
+    ∙ tenths-only (r * r) h (tenths o) (le-trans (square-le least) (omega (arith, square-times tenthsIn r))) (lt-of-lt-of-le (omega (arith, square-next (tenthsIn * r), square-times tenthsIn r)) (square-le most))
 
 -- Where they begin to differ.
 
@@ -57,7 +58,7 @@ same-below-3 (suc zero) h = refl
 same-below-3 (suc (suc zero)) h = refl
 same-below-3 (suc (suc (suc n))) h = absurd (omega arith)
 
-pub apart-at-3 : (oldTenthsOf 3 ≡ 0) × (tenthsOf 3 ≡ 1)
+pub apart-at-3 : (oldTenthsOf 3 ≡ tenths 0) × (tenthsOf 3 ≡ tenths 1)
 unfolding oldTenthsOf tenthsOf rootOf rootBy digit if_then_else_
 apart-at-3 = (refl, refl)
 
@@ -89,6 +90,6 @@ same-below-13 (suc (suc (suc zero))) (suc (suc (suc zero))) h = absurd (omega ar
 same-below-13 (suc (suc (suc zero))) (suc (suc (suc (suc b)))) h = four-away (9) b h
 same-below-13 (suc (suc (suc (suc a)))) b h = four-away (b * b) a (omega arith)
 
-pub apart-at-13 : (oldTenthsOf 13 ≡ 1) × (tenthsOf 13 ≡ 2)
+pub apart-at-13 : (oldTenthsOf 13 ≡ tenths 1) × (tenthsOf 13 ≡ tenths 2)
 unfolding oldTenthsOf tenthsOf rootOf rootBy digit if_then_else_
 apart-at-13 = (refl, refl)

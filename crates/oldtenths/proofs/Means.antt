@@ -6,34 +6,34 @@ use mathlib.Core.Bool.{Bool, true, false}
 use mathlib.Core.List.{List, [], _∷_, map}
 use native.Mathlib.Nat.{le-trans, div-mul-le-self, le-div-iff-mul-le, add-div-right, zero-lt-suc}
 use native.Mathlib.Omega.{arith}
-use lib.IntN.{_-ℤ_}
 use lib.ListN.{length, length-map}
 use Rattle.panel.proofs.Laws.{and-left, and-right}
-use Rattle.panel.specs.Centroids.{total, mean}
 use Rattle.panel.specs.Tests.{if_then_else_, _<?_}
 use Rattle.panel.specs.declared.refusals.Refusal.{Refusal}
 use Rattle.panel.specs.declared.refusals.Refusal.the-variants as Refusal
 use Rattle.calmap.proofs.Bounds.{squared-reach}
 use Rattle.calmap.specs.Distances.{squared, gapOf, tenthsOf}
 use Rattle.calmap.specs.Maps.{applyOf}
-use Rattle.calmap.specs.Resids.{inSixteenths, farOff, missOf, Misses, known, wide, besides, missesOf, largest, spread, spreadBy, residBy, residOf}
+use Rattle.calmap.specs.Resids.{farOff, missOf, Misses, known, wide, besides, missesOf, sumOf, meanOf, largest, spread, spreadBy, residBy, residOf}
 use Rattle.calmap.specs.Sizes.{longest}
+use Rattle.calmap.specs.Units.{inSixteenths, _⊟_, shareOf}
 use Rattle.calmap.specs.declared.gaps.Gap.{Gap}
 use Rattle.calmap.specs.declared.gaps.Gap.the-variants.{Squared, Wide}
 use Rattle.calmap.specs.declared.mapping.ApplyAnswer.{ApplyAnswer}
 use Rattle.calmap.specs.declared.mapping.ApplyAnswer.the-variants as Apply
 use Rattle.calmap.specs.declared.residuals.ResidAnswer.the-variants.{Answered, Refused}
 use Rattle.calmap.specs.declared.residuals.Spread.{Spread}
+use Rattle.calmap.specs.declared.units.Aim.{Aim}
 use Rattle.calmap.specs.declared.units.Cal.{Cal}
-use Rattle.calmap.specs.declared.units.Pair.{Pair}
 use Rattle.calmap.specs.declared.units.Tap.{Tap}
+use Rattle.calmap.specs.declared.units.Tenths.{Tenths}
 use Rattle.oldtenths.specs.OldTenths.{oldTenthsOf}
 use Rattle.oldtenths.proofs.Laws.{old-at-most, one-more-at-most}
 
 -- the same, or one more
-pub record OneMore (old new : ℕ) : Type 0 where
-  pub least : old ≤ new
-  pub most : new ≤ old + 1
+pub record OneMore (old new : Tenths) : Type 0 where
+  pub least : old .0 ≤ new .0
+  pub most : new .0 ≤ old .0 + 1
 
 -- ---- squared distances of 64 bits, as those of taps are
 
@@ -49,12 +49,12 @@ gap-reached false n d2 f e = let z : _≡_ {A = ℕ} 0 1 = cc in absurd (omega a
 far-reached : (a : ApplyAnswer) (t : Tap) (d2 : ℕ) → farOff a t ≡ Squared d2 → d2 < 2 ^ 64
 unfolding gapOf
 far-reached (Apply.Answered s) t d2 e =
-    let dx = s .0 .0 -ℤ inSixteenths (t .x) .0 in
-    let dy = s .1 .0 -ℤ inSixteenths (t .y) .0 in
+    let dx = s .0 ⊟ inSixteenths (t .x) in
+    let dy = s .1 ⊟ inSixteenths (t .y) in
     gap-reached _ (squared dx dy) d2 (λ h. squared-reach dx dy (and-left _ _ h) (and-right _ _ h)) e
 far-reached (Apply.Refused r) t d2 e = let z : _≡_ {A = ℕ} 0 1 = cc in absurd (omega arith)
 
-miss-reached : (c : Cal) (p : Pair) (d2 : ℕ) → missOf c p ≡ Squared d2 → d2 < 2 ^ 64
+miss-reached : (c : Cal) (p : Aim) (d2 : ℕ) → missOf c p ≡ Squared d2 → d2 < 2 ^ 64
 unfolding missOf
 miss-reached c p d2 e = far-reached (applyOf c (p .raw .x) (p .raw .y)) (p .tgt) d2 e
 
@@ -67,7 +67,7 @@ one-reached (Squared d2) (known ds) f r = more (f d2 refl) r
 one-reached (Squared d2) wide f r = tt
 one-reached Wide ms f r = tt
 
-misses-reached : (c : Cal) (ps : List Pair) → AllReached (missesOf c ps)
+misses-reached : (c : Cal) (ps : List Aim) → AllReached (missesOf c ps)
 unfolding missesOf
 misses-reached c [] = none
 misses-reached c (p ∷ ps) = one-reached (missOf c p) (missesOf c ps) (miss-reached c p) (misses-reached c ps)
@@ -85,26 +85,27 @@ largest-told (more {d2} {ds} h r) =
     let l = largest-told r in
     record { least = omega (arith, t .least, l .least); most = omega (arith, t .most, l .most) }
 
-total-told : {ds : List ℕ} → Reached ds → (total (map oldTenthsOf ds) ≤ total (map tenthsOf ds)) × (total (map tenthsOf ds) ≤ total (map oldTenthsOf ds) + length ds)
-unfolding total
-total-told none = (omega arith, omega arith)
-total-told (more {d2} {ds} h r) =
+sum-told : {ds : List ℕ} → Reached ds → (sumOf (map oldTenthsOf ds) .0 ≤ sumOf (map tenthsOf ds) .0) × (sumOf (map tenthsOf ds) .0 ≤ sumOf (map oldTenthsOf ds) .0 + length ds)
+unfolding sumOf
+sum-told none = (omega arith, omega arith)
+sum-told (more {d2} {ds} h r) =
     let t = told d2 h in
-    let l = total-told r in
+    let l = sum-told r in
     (omega (arith, t .least, l .0), omega (arith, t .most, l .1))
 
 -- n of them share a sum
 shared-least : (a b n : ℕ) → 0 < n → a ≤ b → a / n ≤ b / n
 shared-least a b n h l = le-div-iff-mul-le h .1 (le-trans (div-mul-le-self a n) l)
 
-shared-told : (a b n : ℕ) → 0 < n → a ≤ b → b ≤ a + n → OneMore (a / n) (b / n)
-shared-told a b n h l m = record { least = shared-least a b n h l; most = subst (λ (k : ℕ). b / n ≤ k) (add-div-right a h) (shared-least b (a + n) n h m) }
+shared-told : (a b : Tenths) (n : ℕ) → 0 < n → a .0 ≤ b .0 → b .0 ≤ a .0 + n → OneMore (shareOf a n) (shareOf b n)
+shared-told a b n h l m =
+    record { least = shared-least (a .0) (b .0) n h l; most = subst (λ (k : ℕ). b .0 / n ≤ k) (add-div-right (a .0) h) (shared-least (b .0) (a .0 + n) n h m) }
 
-mean-told : {ds : List ℕ} → Reached ds → OneMore (mean (map oldTenthsOf ds)) (mean (map tenthsOf ds))
-unfolding mean
+mean-told : {ds : List ℕ} → Reached ds → OneMore (meanOf (map oldTenthsOf ds)) (meanOf (map tenthsOf ds))
+unfolding meanOf
 mean-told none = record { least = omega arith; most = omega arith }
 mean-told (more {d2} {ds} h r) =
-    let l = total-told (more {d2 = d2} {ds = ds} h r) in
+    let l = sum-told (more {d2 = d2} {ds = ds} h r) in
     rw (length-map ds oldTenthsOf, length-map ds tenthsOf) (shared-told _ _ (suc (length ds)) (zero-lt-suc (length ds)) (l .0) (l .1))
 
 -- ---- so of `resid`
@@ -114,18 +115,18 @@ never r s e = let z : _≡_ {A = ℕ} 0 1 = cc in absurd (omega arith)
 
 apart : (long : Bool) (ms : Misses) (s t : Spread) → AllReached ms
     → if_then_else_ long (Refused Refusal.Long) (spreadBy oldTenthsOf ms) ≡ Answered s → if_then_else_ long (Refused Refusal.Long) (spreadBy tenthsOf ms) ≡ Answered t
-    → OneMore (s .mean .0) (t .mean .0) × OneMore (s .max .0) (t .max .0)
+    → OneMore (s .mean) (t .mean) × OneMore (s .max) (t .max)
 unfolding if_then_else_
 apart true ms s t r e f = never Refusal.Long s e
 apart false (known ds) s t r e f =
     let old = map oldTenthsOf ds in
     let new = map tenthsOf ds in
-    let p : spread (mean old) (largest old) ≡ s = cc in
-    let q : spread (mean new) (largest new) ≡ t = cc in
-    subst (λ (x : Spread). OneMore (x .mean .0) (t .mean .0) × OneMore (x .max .0) (t .max .0)) p (
-    subst (λ (y : Spread). OneMore (mean old) (y .mean .0) × OneMore (largest old) (y .max .0)) q (mean-told r, largest-told r))
+    let p : spread (meanOf old) (largest old) ≡ s = cc in
+    let q : spread (meanOf new) (largest new) ≡ t = cc in
+    subst (λ (x : Spread). OneMore (x .mean) (t .mean) × OneMore (x .max) (t .max)) p (
+    subst (λ (y : Spread). OneMore (meanOf old) (y .mean) × OneMore (largest old) (y .max)) q (mean-told r, largest-told r))
 apart false wide s t r e f = never Refusal.Wide s e
 
-pub resid-apart : (c : Cal) (ps : List Pair) (s t : Spread) → residBy oldTenthsOf c ps ≡ Answered s → residOf c ps ≡ Answered t → OneMore (s .mean .0) (t .mean .0) × OneMore (s .max .0) (t .max .0)
+pub resid-apart : (c : Cal) (ps : List Aim) (s t : Spread) → residBy oldTenthsOf c ps ≡ Answered s → residOf c ps ≡ Answered t → OneMore (s .mean) (t .mean) × OneMore (s .max) (t .max)
 unfolding residBy
 resid-apart c ps s t e f = apart (longest <? length ps) (missesOf c ps) s t (misses-reached c ps) e f

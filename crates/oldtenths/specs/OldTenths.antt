@@ -8,10 +8,11 @@ use Prim.Native.Nat.{ℕ, _*_, _/_}
 use Rattle.calmap.specs.Distances.{Rule}
 use Rattle.calmap.specs.Roots.{rootOf}
 use Rattle.calmap.specs.Sizes.{sixteenthsIn}
+use Rattle.calmap.specs.Units.{tenths}
 
 -- "times 10"
 abbrev pub tenthsIn : ℕ
 tenthsIn = 10
 
 unfoldable pub oldTenthsOf : Rule
-oldTenthsOf d2 = rootOf d2 * tenthsIn / sixteenthsIn
+oldTenthsOf d2 = tenths (rootOf d2 * tenthsIn / sixteenthsIn)

@@ -4,19 +4,19 @@ ghost use Rattle.calmap.specs.Checks.{checkFirst};
 ghost use Rattle.calmap.specs.Resids.{residFirstBy};
 ghost use Rattle.touchcal.specs.Fits.{weighed};
 ghost use Rattle.touchcal.specs.Floats.{identity};
-ghost use Rattle.touchcal.specs.Held.{fitFirstBy};
+ghost use Rattle.touchcal.specs.code.Arrays.{fitFirstBy};
 ghost use Rattle.oldtenths.specs.OldTenths.{oldTenthsOf};
 use crate::residuals;
+use calmap::Aim;
 use calmap::Cal;
 use calmap::MAX_TAPS;
-use calmap::Pair;
 use panel::Point;
 use touchcal::FitAnswer;
 
 // A calibration with its residuals, those without it, and the verdict.
 fn measured(
     c: Cal,
-    pairs: [Pair; MAX_TAPS],
+    pairs: [Aim; MAX_TAPS],
     n: usize,
     targets: [Point; MAX_TAPS],
     m: usize,
@@ -33,7 +33,7 @@ fn measured(
 // `fit` of the first n pairs, judged over the first m targets. No refusal and no calibration hangs on the rule of tenths,
 // so both are those of `touchcal`; what it measured is measured again.
 pub fn old_fit_of(
-    pairs: [Pair; MAX_TAPS],
+    pairs: [Aim; MAX_TAPS],
     n: usize,
     targets: [Point; MAX_TAPS],
     m: usize,

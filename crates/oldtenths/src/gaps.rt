@@ -1,6 +1,6 @@
 // The distance of two places by the old tenths: the root is cut before it is scaled.
 ghost use mathlib.Core.Path.{_≡_};
-ghost use Rattle.calmap.specs.Distances.{tenths, dist10By};
+ghost use Rattle.calmap.specs.Distances.{dist10By};
 ghost use Rattle.oldtenths.specs.OldTenths.{oldTenthsOf};
 use calmap::Dist10Answer;
 use calmap::Gap;
@@ -10,7 +10,7 @@ use panel::Refusal;
 
 // A squared distance in sixteenths of a pixel, as a distance in tenths.
 pub(crate) fn in_old_tenths(d2: u64) -> Tenths
-    ensures { λ r. ⌜ r ≡ tenths (oldTenthsOf d2) ⌝ }
+    ensures { λ r. ⌜ r ≡ oldTenthsOf d2 ⌝ }
 {
     Tenths((calmap::isqrt(d2) * 10 >> 4) as u32)
 }

@@ -1,6 +1,6 @@
 -- The public calls in document 01's numbers: what each tells for every input, and that its contract leaves no
 -- second answer. Assumes nothing.
-use Prim.Native.Nat.{ℕ, _*_, _≤_, _<_}
+use Prim.Native.Nat.{ℕ, _*_, _≤_, _<_, max}
 use mathlib.Core.Bool.{Bool}
 use mathlib.Core.Path.{_≡_, refl, sym, _∙_}
 use mathlib.Core.List.{List, [], _∷_, map}
@@ -82,6 +82,9 @@ on-panel-unique p = one-answer
 
 pub gap-unique : (a b : ℕ) {r s : ℕ} → r ≡ difference a b → s ≡ difference a b → r ≡ s
 gap-unique a b = one-answer
+
+pub larger-unique : (a b : ℕ) {r s : ℕ} → r ≡ max a b → s ≡ max a b → r ≡ s
+larger-unique a b = one-answer
 
 module _ (p q : Point) where
   pub apart-unique : {r s : ℕ} → r ≡ distance p q → s ≡ distance p q → r ≡ s

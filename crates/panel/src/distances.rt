@@ -22,7 +22,7 @@ pub fn gap(a: u16, b: u16) -> u16
 }
 
 // The larger of two numbers.
-pub(crate) fn larger(a: u32, b: u32) -> u32
+pub fn larger(a: u32, b: u32) -> u32
     ensures { λ r. ⌜ r ≡ max a b ⌝ }
 {
     if a <= b { b } else { a }

@@ -21,6 +21,7 @@ pub use distances::apart2;
 pub use distances::dist;
 pub use distances::dist2;
 pub use distances::gap;
+pub use distances::larger;
 pub use distances::square;
 pub use middle::CentroidAnswer;
 pub use middle::centroid;

@@ -8,12 +8,12 @@ use crate::lines::Piece;
 use crate::lines::Reply;
 use crate::lists::Beside;
 use crate::lists::Targets;
+use calmap::Aim;
 use calmap::ApplyAnswer;
 use calmap::Cal;
 use calmap::CheckAnswer;
 use calmap::Dist10Answer;
 use calmap::MAX_TAPS;
-use calmap::Pair;
 use calmap::ResidAnswer;
 use calmap::ScreenAnswer;
 use calmap::Sixteenths;
@@ -100,7 +100,7 @@ fn spread(s: Spread) -> Reply {
     lines::two(lines::number(mean.0 as u64), lines::number(max.0 as u64))
 }
 
-fn spread_by(kind: u64, c: Cal, list: [Pair; MAX_TAPS], n: usize) -> ResidAnswer {
+fn spread_by(kind: u64, c: Cal, list: [Aim; MAX_TAPS], n: usize) -> ResidAnswer {
     match kind {
         44 => oldtenths::old_resid_of(c, list, n),
         _ => calmap::resid_of(c, list, n),
@@ -223,7 +223,7 @@ fn steep(p: CoefPlace) -> Reply {
 
 fn fit_by(
     kind: u64,
-    pairs: [Pair; MAX_TAPS],
+    pairs: [Aim; MAX_TAPS],
     n: usize,
     targets: [Point; MAX_TAPS],
     m: usize,

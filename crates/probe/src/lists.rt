@@ -2,8 +2,8 @@
 // and counted, and the call refuses them by the count.
 ghost use Prim.Native.Nat.{_<_};
 use crate::args;
+use calmap::Aim;
 use calmap::MAX_TAPS;
-use calmap::Pair;
 use calmap::Tap;
 use panel::Point;
 use trace::Cursor;
@@ -25,7 +25,7 @@ pub(crate) struct Targets {
 
 // Raw taps beside their targets, as many as the shorter list has.
 pub(crate) struct Beside {
-    pub list: [Pair; MAX_TAPS],
+    pub list: [Aim; MAX_TAPS],
     pub n: usize,
     pub to: Cursor,
 }
@@ -107,14 +107,14 @@ pub(crate) fn targets_at(s: &[u8], c: Cursor) -> Targets {
     Targets { list, n, to }
 }
 
-fn side_by_side(raw: [Tap; PLACES], tgt: [Tap; PLACES]) -> [Pair; MAX_TAPS] {
+fn side_by_side(raw: [Tap; PLACES], tgt: [Tap; PLACES]) -> [Aim; MAX_TAPS] {
     let p = Tap { x: 0, y: 0 };
-    let mut list = [Pair { raw: p, tgt: p }; MAX_TAPS];
+    let mut list = [Aim { raw: p, tgt: p }; MAX_TAPS];
     let mut i = 0;
     while i < MAX_TAPS {
         let q = raw[i];
         let t = tgt[i];
-        list[i] = Pair { raw: q, tgt: t };
+        list[i] = Aim { raw: q, tgt: t };
         i += 1;
     }
     list

@@ -13,11 +13,12 @@ use Rattle.panel.specs.Tests.{_and_}
 use Rattle.panel.proofs.Follow.{if-true, and-true}
 use Rattle.calmap.specs.Sizes.{end32, one}
 use Rattle.calmap.specs.Wide.{in32, in16}
+use Rattle.calmap.specs.Units.{wholeSteps}
 use Rattle.calmap.specs.Maps.{line, lineFits, applyOf}
 use Rattle.calmap.specs.Resids.{farOff, missOf, Misses, known, missesOf}
 use Rattle.calmap.specs.declared.units.Q16.{Q16}
 use Rattle.calmap.specs.declared.units.Tap.{Tap}
-use Rattle.calmap.specs.declared.units.Pair.{Pair}
+use Rattle.calmap.specs.declared.units.Aim.{Aim}
 use Rattle.calmap.specs.declared.mapping.Spot.{Spot}
 use Rattle.calmap.specs.declared.mapping.ApplyAnswer.the-variants as Apply
 use Rattle.calmap.specs.declared.gaps.Gap.the-variants.{Squared}
@@ -29,9 +30,9 @@ pub record Small (t : Tap) : Type 0 where
   pub x : mag (t .x) < 2 ^ 15
   pub y : mag (t .y) < 2 ^ 15
 
-pub data AllSmall : List Pair → Type 0 where
+pub data AllSmall : List Aim → Type 0 where
   none : AllSmall []
-  more : {p : Pair} {ps : List Pair} → Small (p .raw) → Small (p .tgt) → AllSmall ps → AllSmall (p ∷ ps)
+  more : {p : Aim} {ps : List Aim} → Small (p .raw) → Small (p .tgt) → AllSmall ps → AllSmall (p ∷ ps)
 
 -- ---- where a tap lands
 
@@ -46,7 +47,7 @@ times-one (negsuc n) h = mag-neg (suc n * one) end32 (omega arith) (omega arith)
 abbrev none′ : Q16
 none′ = record { 0 = pos 0 }
 
-line-is : (v x y : ℤ) → line v none′ none′ none′ x y ≡ v *ℤ pos one
+line-is : (v x y : ℤ) → line v none′ none′ none′ x y ≡ wholeSteps v
 unfolding line
 line-is v x y = simp (zero-*ℤ, +ℤ-idr)
 
@@ -72,11 +73,11 @@ landed t h =
     let both = and-true _ _ (in-i16 (t .x) (h .x)) ∙ and-true _ _ (in-i16 (t .y) (h .y)) ∙ and-true _ _ (line-fits (t .x) (t .x) (t .y) (h .x)) ∙ line-fits (t .y) (t .x) (t .y) (h .y) in
     record { spot = _; is = if-true _ _ _ both }
 
-record Missed (p : Pair) : Type 0 where
+record Missed (p : Aim) : Type 0 where
   pub miss : ℕ
   pub is : missOf identity p ≡ Squared miss
 
-missed : (p : Pair) → Small (p .raw) → Small (p .tgt) → Missed p
+missed : (p : Aim) → Small (p .raw) → Small (p .tgt) → Missed p
 unfolding missOf
 missed p r t =
     let l = landed (p .raw) r in
@@ -89,7 +90,7 @@ pub record Known (ms : Misses) : Type 0 where
   pub misses : List ℕ
   pub is : ms ≡ known misses
 
-pub before-known : {ps : List Pair} → AllSmall ps → Known (missesOf identity ps)
+pub before-known : {ps : List Aim} → AllSmall ps → Known (missesOf identity ps)
 unfolding missesOf
 before-known none = record { misses = []; is = refl }
 before-known (more {p} {ps} r t rest) =

@@ -7,7 +7,7 @@ use Prim.Native.Nat.{ℕ, _≤_, _<_}
 use native.Mathlib.Omega.{arith}
 use borrow.Author.Tests.{le-ltb, ltb-false}
 use lib.ListN.{length, take, length-take}
-use Rattle.calmap.specs.Held.{heldPairs, heldPoints}
+use Rattle.calmap.specs.code.Arrays.{heldPairs, heldPoints}
 use Rattle.calmap.specs.declared.units.Tap.{Tap}
 use Rattle.calmap.proofs.Holding.{pairs-long, pairs-count, pairs-all, points-long, points-count, points-all}
 use Rattle.panel.specs.Tests.{if_then_else_, _or_, _<?_}
@@ -21,13 +21,13 @@ use Rattle.calmap.specs.Distances.{tenthsOf}
 use Rattle.calmap.specs.Resids.{pairsOf, residOf, residFirst, residFirstBy}
 use Rattle.calmap.specs.Checks.{verdictOf, checkOf, checkFirst}
 use Rattle.calmap.specs.declared.units.Cal.{Cal}
-use Rattle.calmap.specs.declared.units.Pair.{Pair}
+use Rattle.calmap.specs.declared.units.Aim.{Aim}
 use Rattle.calmap.specs.declared.limits.Verdict.{Verdict}
 use Rattle.calmap.specs.declared.limits.CheckAnswer.{CheckAnswer}
 use Rattle.calmap.specs.declared.limits.CheckAnswer.the-variants as Check
 use Rattle.touchcal.specs.Solutions.{solvedOf}
 use Rattle.touchcal.specs.Fits.{fittedBy, fitOf, fitBy}
-use Rattle.touchcal.specs.Held.{foundOf, fitFirst, fitFirstBy, fitHeld}
+use Rattle.touchcal.specs.code.Arrays.{calOrIdentity, fitFirst, fitFirstBy, fitHeld}
 use Rattle.touchcal.specs.declared.solving.Solved.{Solved}
 use Rattle.touchcal.specs.declared.solving.Solved.the-variants.{Is}
 use Rattle.touchcal.specs.declared.fitting.FitAnswer.{FitAnswer}
@@ -67,7 +67,7 @@ not-refused false x v e = refl
 not-long : {A : Type 0} (n : ℕ) (xs : List A) → n ≤ longest → longest <? length (take n xs) ≡ false
 not-long n xs h = le-ltb longest (length (take n xs)) (rw length-take (omega arith))
 
-module _ (n : ℕ) (ps : List Pair) (m : ℕ) (ts : List Point) where
+module _ (n : ℕ) (ps : List Aim) (m : ℕ) (ts : List Point) where
   pub fit-long : longest < n → fitFirst n ps m ts ≡ Refused Long
   unfolding fitFirstBy
   fit-long h = search follow
@@ -98,14 +98,14 @@ module _ (n : ℕ) (ps : List Pair) (m : ℕ) (ts : List Point) where
 
 -- ---- the calibration that is judged
 
-pub found-is : (s : Solved) (c : Cal) → s ≡ Is c → foundOf s ≡ c
-unfolding foundOf
+pub found-is : (s : Solved) (c : Cal) → s ≡ Is c → calOrIdentity s ≡ c
+unfolding calOrIdentity
 found-is s c e = rw e
 
 -- ---- what is held of lists, as calmap holds them, gives what the lists give
 
 module _ (raw tgt : List Tap) (ts : List Point) where
-  abbrev ps : List Pair
+  abbrev ps : List Aim
   ps = pairsOf raw tgt
 
   held-long : longest <? length ps or longest <? length ts ≡ true → fitHeld (heldPairs raw tgt) (heldPoints ts) ≡ fitOf ps ts

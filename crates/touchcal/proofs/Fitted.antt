@@ -7,7 +7,6 @@ use Prim.Native.Nat.{ℕ}
 use native.Mathlib.Omega.{arith}
 use lib.ListN.{length}
 use Rattle.panel.specs.Tests.{if_then_else_, _or_, _<?_}
-use Rattle.panel.specs.Centroids.{mean}
 use Rattle.panel.specs.Points.{allOnPanel}
 use Rattle.panel.specs.Refusals.{Told}
 use Rattle.panel.specs.declared.points.Point.{Point}
@@ -15,11 +14,11 @@ use Rattle.panel.specs.declared.refusals.Refusal.{Refusal}
 use Rattle.panel.specs.declared.refusals.Refusal.the-variants as Refusal
 use Rattle.panel.proofs.Follow.{follow, if-of}
 use Rattle.calmap.specs.Sizes.{longest}
-use Rattle.calmap.specs.Distances.{Rule, tenthsOf, tenths}
-use Rattle.calmap.specs.Resids.{residBy, Misses, known, wide, missesOf, largest, spreadBy}
+use Rattle.calmap.specs.Distances.{Rule, tenthsOf}
+use Rattle.calmap.specs.Resids.{residBy, Misses, known, wide, missesOf, meanOf, largest, spreadBy}
 use Rattle.calmap.specs.Checks.{checkOf, verdictOf, judged}
 use Rattle.calmap.specs.declared.units.Cal.{Cal}
-use Rattle.calmap.specs.declared.units.Pair.{Pair}
+use Rattle.calmap.specs.declared.units.Aim.{Aim}
 use Rattle.calmap.specs.declared.residuals.ResidAnswer.{ResidAnswer}
 use Rattle.calmap.specs.declared.residuals.ResidAnswer.the-variants as Resid
 use Rattle.calmap.specs.declared.units.Tenths.{Tenths}
@@ -43,28 +42,28 @@ use Rattle.touchcal.proofs.Reach.{allReach, nearestCal, stepped-are}
 
 -- ---- the solution: the Rust's three ways to `None`, in its order, and no other
 
-abbrev pub deltas : List Pair → Coefs
+abbrev pub deltas : List Aim → Coefs
 deltas ps = deltasOf (coefsOf (momentsOf ps))
 
-abbrev pub few : List Pair → Bool
+abbrev pub few : List Aim → Bool
 few ps = length ps <? fewest
 
-abbrev pub spread : List Pair → Bool
+abbrev pub spread : List Aim → Bool
 spread ps = spreads (momentsOf ps .sums)
 
-abbrev pub near : List Pair → Bool
+abbrev pub near : List Aim → Bool
 near ps = allReach (deltas ps)
 
 -- the place of the first coefficient that is out of reach
-abbrev pub first : List Pair → CoefPlace
+abbrev pub first : List Aim → CoefPlace
 first ps = place (firstRefused (inOrder (deltas ps)))
 
-pub solved-are : (ps : List Pair) → solvedOf ps ≡ (if few ps then Few else if spread ps then (if near ps then Is (nearestCal (deltas ps)) else Solved.Steep (first ps)) else Line)
+pub solved-are : (ps : List Aim) → solvedOf ps ≡ (if few ps then Few else if spread ps then (if near ps then Is (nearestCal (deltas ps)) else Solved.Steep (first ps)) else Line)
 unfolding solvedOf
 solved-are ps = rw (stepped-are (deltas ps), if-of ofSteps (near ps) _ _)
 
 -- FEW, LINE and STEEP, and behind them what is measured
-pub unfit-exactly : (rule : Rule) (ps : List Pair) (ts : List Point)
+pub unfit-exactly : (rule : Rule) (ps : List Aim) (ts : List Point)
     → fittedBy rule (solvedOf ps) ps ts
     ≡ (let c = nearestCal (deltas ps) in
     if few ps then Refused Refusal.Few
@@ -83,7 +82,7 @@ unfit-exactly rule ps ts = rw (solved-are ps) (go (few ps) (spread ps) (near ps)
 
 -- ---- no list too long, and all targets on the panel
 
-module _ (ps : List Pair) (ts : List Point) (few : longest <? length ps ≡ false) (few′ : longest <? length ts ≡ false) (on : allOnPanel ts ≡ true) where
+module _ (ps : List Aim) (ts : List Point) (few : longest <? length ps ≡ false) (few′ : longest <? length ts ≡ false) (on : allOnPanel ts ≡ true) where
   pub fit-is : (rule : Rule) → fitBy rule ps ts ≡ fittedBy rule (solvedOf ps) ps ts
   unfolding fitBy
   fit-is rule = search follow
@@ -107,11 +106,11 @@ zeros = unmeasured (place 0)
 abbrev pub byMisses : Cal → List Point → Misses → Misses → Told Tells
 byMisses c ts (known ds) (known before) =
     let told = map tenthsOf ds in
-    tells 0 (record { cal = c; mean = tenths (mean told); max = tenths (largest told); before = tenths (mean (map tenthsOf before)); verdict = judged (judgedBy (verdictOf c ts) (tenths (largest told))); place = place 0 })
+    tells 0 (record { cal = c; mean = meanOf told; max = largest told; before = meanOf (map tenthsOf before); verdict = judged (judgedBy (verdictOf c ts) (largest told)); place = place 0 })
 byMisses c ts (known ds) wide = tells 3 zeros
 byMisses c ts wide before = tells 3 zeros
 
-abbrev pub bySolution : Solved → List Pair → List Point → Told Tells
+abbrev pub bySolution : Solved → List Aim → List Point → Told Tells
 bySolution (Is c) ps ts = byMisses c ts (missesOf c ps) (missesOf identity ps)
 bySolution Few ps ts = tells 6 zeros
 bySolution Line ps ts = tells 16 zeros
@@ -122,7 +121,7 @@ misses-tell c ts (known ds) (known d0) = refl
 misses-tell c ts (known ds) wide = refl
 misses-tell c ts wide before = refl
 
-module _ (ps : List Pair) (ts : List Point) (few : longest <? length ps ≡ false) (few′ : longest <? length ts ≡ false) (on : allOnPanel ts ≡ true) where
+module _ (ps : List Aim) (ts : List Point) (few : longest <? length ps ≡ false) (few′ : longest <? length ts ≡ false) (on : allOnPanel ts ≡ true) where
   pub solution-tells : (s : Solved) → toldFit (fittedBy tenthsOf s ps ts) ≡ bySolution s ps ts
   solution-tells (Is c) = rw (resid-is ps ts few few′ on tenthsOf c, resid-is ps ts few few′ on tenthsOf identity, check-is ps ts few few′ on c) (misses-tell c ts (missesOf c ps) (missesOf identity ps))
   solution-tells Few = refl
@@ -131,7 +130,7 @@ module _ (ps : List Pair) (ts : List Point) (few : longest <? length ps ≡ fals
 
 -- ---- the residuals and the verdict of a fit that is answered
 
-pub record Measured (rule : Rule) (ps : List Pair) (ts : List Point) (f : Fit) : Type 0 where
+pub record Measured (rule : Rule) (ps : List Aim) (ts : List Point) (f : Fit) : Type 0 where
   -- the largest distance without a calibration, which a fit does not tell, and the verdict of `check`
   pub most : Tenths
   pub checked : Verdict
@@ -143,7 +142,7 @@ pub record Measured (rule : Rule) (ps : List Pair) (ts : List Point) (f : Fit) :
 pub never : {X : Type 0} (r : Refusal) (f : Fit) → Refused r ≡ Answered f → X
 never r f e = let z : _≡_ {A = ℕ} 0 1 = cc in absurd (omega arith)
 
-weighed-back : (rule : Rule) (ps : List Pair) (ts : List Point) (c : Cal) (r r0 : ResidAnswer) (k : CheckAnswer) (f : Fit)
+weighed-back : (rule : Rule) (ps : List Aim) (ts : List Point) (c : Cal) (r r0 : ResidAnswer) (k : CheckAnswer) (f : Fit)
     → residBy rule c ps ≡ r → residBy rule identity ps ≡ r0 → checkOf c ts ≡ k → weighed c r r0 k ≡ Answered f → (c ≡ f .cal) × Measured rule ps ts f
 weighed-back rule ps ts c (Resid.Answered s) (Resid.Answered s0) (Check.Answered v) f p p0 q e =
     let is : fitWith c s s0 v ≡ f = cc in
@@ -152,7 +151,7 @@ weighed-back rule ps ts c (Resid.Answered s) (Resid.Answered s0) (Check.Refused 
 weighed-back rule ps ts c (Resid.Answered s) (Resid.Refused r) k f p p0 q e = never r f e
 weighed-back rule ps ts c (Resid.Refused r) r0 k f p p0 q e = never r f e
 
-fitted-back : (rule : Rule) (ps : List Pair) (ts : List Point) (s : Solved) (f : Fit) → fittedBy rule s ps ts ≡ Answered f → (s ≡ Is (f .cal)) × Measured rule ps ts f
+fitted-back : (rule : Rule) (ps : List Aim) (ts : List Point) (s : Solved) (f : Fit) → fittedBy rule s ps ts ≡ Answered f → (s ≡ Is (f .cal)) × Measured rule ps ts f
 fitted-back rule ps ts (Is c) f e =
     let m = weighed-back rule ps ts c (residBy rule c ps) (residBy rule identity ps) (checkOf c ts) f refl refl refl e in
     (ap (λ (k : Cal). Is k) (m .0), m .1)
@@ -167,6 +166,6 @@ answered-inside false true r r′ x f e = e
 answered-inside false false r r′ x f e = never r′ f e
 
 -- the calibration is the solution, its residuals are those of `resid`, its verdict is that of `check`: none of them is made up
-pub fit-measured : (rule : Rule) (ps : List Pair) (ts : List Point) (f : Fit) → fitBy rule ps ts ≡ Answered f → (solvedOf ps ≡ Is (f .cal)) × Measured rule ps ts f
+pub fit-measured : (rule : Rule) (ps : List Aim) (ts : List Point) (f : Fit) → fitBy rule ps ts ≡ Answered f → (solvedOf ps ≡ Is (f .cal)) × Measured rule ps ts f
 unfolding fitBy
 fit-measured rule ps ts f e = fitted-back rule ps ts (solvedOf ps) f (answered-inside _ _ _ _ _ f e)

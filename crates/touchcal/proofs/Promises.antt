@@ -15,18 +15,18 @@ use Rattle.panel.proofs.Follow.{if-of, if-false}
 use Rattle.panel.proofs.Promises.{one-answer}
 use Rattle.calmap.specs.Resids.{pairsOf}
 use Rattle.calmap.specs.Sizes.{longest}
-use Rattle.calmap.specs.declared.held.Pairs.{Pairs}
-use Rattle.calmap.specs.declared.held.Points.{Points}
+use Rattle.calmap.specs.declared.arrays.Aims.{Aims}
+use Rattle.calmap.specs.declared.arrays.Points.{Points}
 use Rattle.calmap.specs.declared.limits.CheckAnswer.{CheckAnswer}
 use Rattle.calmap.specs.declared.residuals.ResidAnswer.{ResidAnswer}
+use Rattle.calmap.specs.declared.units.Aim.{Aim}
 use Rattle.calmap.specs.declared.units.Cal.{Cal}
-use Rattle.calmap.specs.declared.units.Pair.{Pair}
 use Rattle.calmap.specs.declared.units.Tap.{Tap}
 use Rattle.touchcal.specs.Floats.{inReach, nearestStep, q16Of, toldQ16, offIdentity, toF32Of, fromF32Of, identity, toldCal}
 use Rattle.touchcal.specs.Scpi.{clear, kept, putOf, takeOf, toldPut, toldTake}
 use Rattle.touchcal.specs.Solutions.{solvedOf}
 use Rattle.touchcal.specs.Fits.{weighed, fitBy, fitOf, toldFit}
-use Rattle.touchcal.specs.Held.{fitFirst, fitHeld}
+use Rattle.touchcal.specs.code.Arrays.{fitFirst, fitHeld}
 use Rattle.touchcal.specs.declared.fitting.FitAnswer.{FitAnswer}
 use Rattle.touchcal.specs.declared.floats.Coefs.{Coefs}
 use Rattle.touchcal.specs.declared.floats.CalAnswer as cal-answer
@@ -61,7 +61,7 @@ unfolding takeOf
 take-tells p = if-of toldTake _ _ _
 
 -- LONG, TARGET, FEW, LINE, STEEP and WIDE in this order, zeros with each but for the place of STEEP; else the calibration, its residuals and the verdict.
-pub fit-tells : (ps : List Pair) (ts : List Point) → toldFit (fitOf ps ts) ≡ (if longest <? length ps or longest <? length ts then tells 4 zeros else if allOnPanel ts then bySolution (solvedOf ps) ps ts else tells 5 zeros)
+pub fit-tells : (ps : List Aim) (ts : List Point) → toldFit (fitOf ps ts) ≡ (if longest <? length ps or longest <? length ts then tells 4 zeros else if allOnPanel ts then bySolution (solvedOf ps) ps ts else tells 5 zeros)
 unfolding fitBy
 fit-tells ps ts =
     if-of toldFit _ _ _
@@ -116,10 +116,10 @@ module _ {r s : FitAnswer} where
   pub weigh-unique : (c : Cal) (after before : ResidAnswer) (k : CheckAnswer) → r ≡ weighed c after before k → s ≡ weighed c after before k → r ≡ s
   weigh-unique c after before k = one-answer
 
-  pub fit-of-unique : (n : ℕ) (ps : List Pair) (m : ℕ) (ts : List Point) → r ≡ fitFirst n ps m ts → s ≡ fitFirst n ps m ts → r ≡ s
+  pub fit-of-unique : (n : ℕ) (ps : List Aim) (m : ℕ) (ts : List Point) → r ≡ fitFirst n ps m ts → s ≡ fitFirst n ps m ts → r ≡ s
   fit-of-unique n ps m ts = one-answer
 
-  pub fit-held-unique : (a : Pairs) (t : Points) → r ≡ fitHeld a t → s ≡ fitHeld a t → r ≡ s
+  pub fit-held-unique : (a : Aims) (t : Points) → r ≡ fitHeld a t → s ≡ fitHeld a t → r ≡ s
   fit-held-unique a t = one-answer
 
   -- over lent lists, which it cannot alter

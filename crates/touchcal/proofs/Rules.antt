@@ -14,14 +14,14 @@ use Rattle.calmap.specs.Resids.{Misses, known, wide, missesOf, spreadBy, residB
 use Rattle.calmap.specs.Checks.{checkOf, checkFirst}
 use Rattle.calmap.specs.Sizes.{longest}
 use Rattle.calmap.specs.declared.units.Cal.{Cal}
-use Rattle.calmap.specs.declared.units.Pair.{Pair}
+use Rattle.calmap.specs.declared.units.Aim.{Aim}
 use Rattle.calmap.specs.declared.limits.CheckAnswer.{CheckAnswer}
 use Rattle.calmap.specs.declared.limits.CheckAnswer.the-variants as Check
 use Rattle.calmap.specs.declared.residuals.ResidAnswer.the-variants as Resid
 use Rattle.touchcal.specs.Floats.{identity}
 use Rattle.touchcal.specs.Solutions.{solvedOf}
 use Rattle.touchcal.specs.Fits.{weighed, fittedBy, fitBy}
-use Rattle.touchcal.specs.Held.{fitFirstBy}
+use Rattle.touchcal.specs.code.Arrays.{fitFirstBy}
 use Rattle.touchcal.specs.declared.solving.Solved.{Solved}
 use Rattle.touchcal.specs.declared.solving.Solved.the-variants as Solved
 use Rattle.touchcal.specs.declared.fitting.Fit.{Fit}
@@ -51,14 +51,14 @@ module _ (a b : Rule) where
   same-weighed false (known ds) wide c k x h e = e
   same-weighed false wide before c k x h e = e
 
-  same-fitted : (s : Solved) (ps : List Pair) (ts : List Point) (x : FitAnswer) → unanswered x ≡ true → fittedBy a s ps ts ≡ x → fittedBy b s ps ts ≡ x
+  same-fitted : (s : Solved) (ps : List Aim) (ts : List Point) (x : FitAnswer) → unanswered x ≡ true → fittedBy a s ps ts ≡ x → fittedBy b s ps ts ≡ x
   unfolding residBy
   same-fitted (Solved.Is c) ps ts x h e = same-weighed (longest <? length ps) (missesOf c ps) (missesOf identity ps) c (checkOf c ts) x h e
   same-fitted Solved.Few ps ts x h e = e
   same-fitted Solved.Line ps ts x h e = e
   same-fitted (Solved.Steep p) ps ts x h e = e
 
-  same-inside : (long on : Bool) (s : Solved) (ps : List Pair) (ts : List Point) (x : FitAnswer) → unanswered x ≡ true
+  same-inside : (long on : Bool) (s : Solved) (ps : List Aim) (ts : List Point) (x : FitAnswer) → unanswered x ≡ true
       → (if long then Refused Refusal.Long else if on then fittedBy a s ps ts else Refused Refusal.Target) ≡ x
       → (if long then Refused Refusal.Long else if on then fittedBy b s ps ts else Refused Refusal.Target) ≡ x
   unfolding if_then_else_
@@ -66,7 +66,7 @@ module _ (a b : Rule) where
   same-inside false true s ps ts x h e = same-fitted s ps ts x h e
   same-inside false false s ps ts x h e = e
 
-  pub same-refused : (ps : List Pair) (ts : List Point) (x : FitAnswer) → unanswered x ≡ true → fitBy a ps ts ≡ x → fitBy b ps ts ≡ x
+  pub same-refused : (ps : List Aim) (ts : List Point) (x : FitAnswer) → unanswered x ≡ true → fitBy a ps ts ≡ x → fitBy b ps ts ≡ x
   unfolding fitBy
   same-refused ps ts x h e = same-inside (longest <? length ps or longest <? length ts) (allOnPanel ts) (solvedOf ps) ps ts x h e
 
@@ -79,7 +79,7 @@ module _ (a b : Rule) where
   passed false true x y f e = refl
   passed false false x y f e = never Refusal.Target f e
 
-  pub same-cal : (ps : List Pair) (ts : List Point) (f : Fit) → fitBy a ps ts ≡ Answered f → fitBy b ps ts ≡ weighed (f .cal) (residBy b (f .cal) ps) (residBy b identity ps) (checkOf (f .cal) ts)
+  pub same-cal : (ps : List Aim) (ts : List Point) (f : Fit) → fitBy a ps ts ≡ Answered f → fitBy b ps ts ≡ weighed (f .cal) (residBy b (f .cal) ps) (residBy b identity ps) (checkOf (f .cal) ts)
   unfolding fitBy
   same-cal ps ts f e =
       passed (longest <? length ps or longest <? length ts) (allOnPanel ts) (fittedBy a (solvedOf ps) ps ts) (fittedBy b (solvedOf ps) ps ts) f e
@@ -87,7 +87,7 @@ module _ (a b : Rule) where
 
   -- ---- the same of the first pairs and targets of arrays
 
-  module _ (n : ℕ) (ps : List Pair) (m : ℕ) (ts : List Point) where
+  module _ (n : ℕ) (ps : List Aim) (m : ℕ) (ts : List Point) where
     first-refused : (long : Bool) (x : FitAnswer) → unanswered x ≡ true → (if long then Refused Refusal.Long else fitBy a (take n ps) (take m ts)) ≡ x → (if long then Refused Refusal.Long else fitBy b (take n ps) (take m ts)) ≡ x
     unfolding if_then_else_
     first-refused true x h e = e

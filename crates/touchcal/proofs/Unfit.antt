@@ -16,7 +16,7 @@ use Rattle.calmap.specs.Sizes.{longest}
 use Rattle.calmap.specs.Distances.{tenthsOf}
 use Rattle.calmap.specs.Resids.{Misses, known, wide, missesOf}
 use Rattle.calmap.specs.declared.units.Cal.{Cal}
-use Rattle.calmap.specs.declared.units.Pair.{Pair}
+use Rattle.calmap.specs.declared.units.Aim.{Aim}
 use Rattle.touchcal.specs.Binary32.{_⊗_, _⊲_}
 use Rattle.touchcal.specs.Sizes.{thin32, leastSum32}
 use Rattle.touchcal.specs.Floats.{identity}
@@ -115,7 +115,7 @@ seventeen false true false true true (known ds) (known d0) e go = absurd (omega 
 seventeen false true false true true (known ds) wide e go = absurd (omega arith)
 seventeen false true false true true wide before e go = absurd (omega arith)
 
-module _ (ps : List Pair) (ts : List Point) where
+module _ (ps : List Aim) (ts : List Point) where
   abbrev long : Bool
   long = longest <? length ps or longest <? length ts
 

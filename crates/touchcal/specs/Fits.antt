@@ -13,11 +13,12 @@ use Rattle.panel.specs.Refusals.{Told, answered, refused}
 use Rattle.panel.specs.declared.points.Point.{Point}
 use Rattle.panel.specs.declared.refusals.Refusal.the-variants as Refusal
 use Rattle.calmap.specs.Sizes.{longest}
-use Rattle.calmap.specs.Distances.{Rule, tenthsOf, tenths}
+use Rattle.calmap.specs.Units.{tenths, over}
+use Rattle.calmap.specs.Distances.{Rule, tenthsOf}
 use Rattle.calmap.specs.Resids.{residBy}
 use Rattle.calmap.specs.Checks.{checkOf, Judged, none, judged}
 use Rattle.calmap.specs.declared.units.Cal.{Cal}
-use Rattle.calmap.specs.declared.units.Pair.{Pair}
+use Rattle.calmap.specs.declared.units.Aim.{Aim}
 use Rattle.calmap.specs.declared.units.Tenths.{Tenths}
 use Rattle.calmap.specs.declared.residuals.Spread.{Spread}
 use Rattle.calmap.specs.declared.residuals.ResidAnswer.{ResidAnswer}
@@ -38,7 +39,7 @@ use Rattle.touchcal.specs.declared.fitting.FitAnswer.the-variants.{Answe
 
 -- the verdict of `check`, and then the residuals
 abbrev pub judgedBy : Verdict → Tenths → Verdict
-judgedBy Verdict.Pass max = if residLimit <? max .0 then Verdict.Resid else Verdict.Pass
+judgedBy Verdict.Pass max = if over residLimit max then Verdict.Resid else Verdict.Pass
 judgedBy Verdict.Scale max = Verdict.Scale
 judgedBy Verdict.Shift max = Verdict.Shift
 judgedBy Verdict.Resid max = Verdict.Resid
@@ -55,20 +56,20 @@ weighed c (Resid.Answered s) (Resid.Refused r) k = Refused r
 weighed c (Resid.Refused r) before k = Refused r
 
 -- what is solved is measured and judged; where the Rust says `None`, it is said why
-abbrev pub fittedBy : Rule → Solved → List Pair → List Point → FitAnswer
+abbrev pub fittedBy : Rule → Solved → List Aim → List Point → FitAnswer
 fittedBy rule (Solved.Is c) ps ts = weighed c (residBy rule c ps) (residBy rule identity ps) (checkOf c ts)
 fittedBy rule Solved.Few ps ts = Refused Refusal.Few
 fittedBy rule Solved.Line ps ts = Refused Refusal.Line
 fittedBy rule (Solved.Steep p) ps ts = Steep p
 
-unfoldable pub fitBy : Rule → List Pair → List Point → FitAnswer
+unfoldable pub fitBy : Rule → List Aim → List Point → FitAnswer
 fitBy rule ps ts =
     if longest <? length ps or longest <? length ts then Refused Refusal.Long
     else if allOnPanel ts then fittedBy rule (solvedOf ps) ps ts
     else Refused Refusal.Target
 
 -- by the rule of the calls
-abbrev pub fitOf : List Pair → List Point → FitAnswer
+abbrev pub fitOf : List Aim → List Point → FitAnswer
 fitOf = fitBy tenthsOf
 
 -- what a fit tells; zeros and no verdict for a refusal, but that STEEP tells a place

@@ -1,5 +1,5 @@
--- What a reader must believe about the float half of the calibration, each after what it is made of. `Held` is the code's
--- own and holds no rule.
+-- What a reader must believe about the float half of the calibration, each after what it is made of. All but
+-- `code`, which holds no rule.
 pub mod Binary32
 pub mod Sizes
 pub mod Floats
@@ -8,4 +8,4 @@ pub mod Moments
 pub mod Solutions
 pub mod Fits
 pub mod Nones
-pub mod Held
+pub mod code

@@ -13,7 +13,7 @@ use Rattle.panel.specs.Tests.{_and_, _or_, _<?_, _=?_}
 use Rattle.panel.specs.Points.{allOnPanel}
 use Rattle.panel.specs.declared.points.Point.{Point}
 use Rattle.calmap.specs.Sizes.{longest}
-use Rattle.calmap.specs.declared.units.Pair.{Pair}
+use Rattle.calmap.specs.declared.units.Aim.{Aim}
 use Rattle.touchcal.specs.Binary32.{_⊗_, _⊲_}
 use Rattle.touchcal.specs.Sizes.{thin32, leastSum32, fewest}
 use Rattle.touchcal.specs.Floats.{inReach, q16Of}
@@ -36,13 +36,13 @@ abbrev pub rustSteep : List Float → Bool
 rustSteep [] = false
 rustSteep (v ∷ vs) = ends (q16Of v) or rustSteep vs
 
-abbrev pub rustNone : List Pair → Bool
+abbrev pub rustNone : List Aim → Bool
 rustNone ps =
     let w = momentsOf ps in
     length ps <? fewest or rustLine (w .sums) or rustSteep (inOrder (deltasOf (coefsOf w)))
 
 -- neither LONG nor TARGET, which come before
-abbrev pub asked : List Pair → List Point → Bool
+abbrev pub asked : List Aim → List Point → Bool
 asked ps ts = not (longest <? length ps or longest <? length ts) and allOnPanel ts
 
 -- which of the three a number says, and how many of them

@@ -4,6 +4,7 @@ use Prim.Native.Nat.{ℕ}
 use mathlib.Core.Bool.{true, false}
 use lib.IntN.{pos, negsuc}
 use lib.Ieee.{Float, fin, binary32, ofBits}
+use Rattle.calmap.specs.declared.units.Tenths.{Tenths}
 
 -- 0, 1/2 and 1
 abbrev pub zero32 : Float
@@ -39,5 +40,5 @@ abbrev pub fewest : ℕ
 fewest = 3
 
 -- "then Resid if max > 250"
-abbrev pub residLimit : ℕ
-residLimit = 250
+abbrev pub residLimit : Tenths
+residLimit = record { 0 = 250 }

@@ -9,7 +9,7 @@ use mathlib.Core.List.{List, [], _∷_}
 use lib.Ieee.{Float}
 use lib.ListN.{length}
 use Rattle.panel.specs.Tests.{if_then_else_, _and_, _<?_}
-use Rattle.calmap.specs.declared.units.Pair.{Pair}
+use Rattle.calmap.specs.declared.units.Aim.{Aim}
 use Rattle.touchcal.specs.Binary32.{_⊖_, _⊗_, _⊘_, _⊲_}
 use Rattle.touchcal.specs.Sizes.{one32, thin32, leastSum32, fewest}
 use Rattle.touchcal.specs.Floats.{q16Of, stepsOf}
@@ -86,7 +86,7 @@ abbrev pub ofSteps : Steps → Solved
 ofSteps (Are c) = Is c
 ofSteps (Beyond p) = Steep p
 
-unfoldable pub solvedOf : List Pair → Solved
+unfoldable pub solvedOf : List Aim → Solved
 solvedOf ps =
     let w = momentsOf ps in
     if length ps <? fewest then Few

@@ -1,17 +1,18 @@
 // The fit of a calibration to taps: the solution of the least squares, how far the taps are from it
 // and how far they were without it, and the verdict.
 ghost use mathlib.Core.Path.{_≡_};
+ghost use Rattle.calmap.specs.Units.{over};
 ghost use Rattle.touchcal.specs.Fits.{judgedBy, fitWith, weighed};
-ghost use Rattle.touchcal.specs.Held.{foundOf, fitFirst, fitHeld};
+ghost use Rattle.touchcal.specs.code.Arrays.{calOrIdentity, fitFirst, fitHeld};
 use crate::floats;
 use crate::floats::CoefPlace;
 use crate::solving;
 use crate::solving::Solved;
+use calmap::Aim;
+use calmap::Aims;
 use calmap::Cal;
 use calmap::CheckAnswer;
 use calmap::MAX_TAPS;
-use calmap::Pair;
-use calmap::Pairs;
 use calmap::Points;
 use calmap::ResidAnswer;
 use calmap::Spread;
@@ -20,8 +21,8 @@ use calmap::Verdict;
 use panel::Point;
 use panel::Refusal;
 
-// The largest residual of an accepted fit, in tenths of a pixel.
-const MAX_RESID: u32 = 250;
+// The largest residual of an accepted fit.
+const MAX_RESID: Tenths = Tenths(250);
 
 // A fit and its residuals: mean and max of the taps through the fitted map, before the mean without
 // a calibration.
@@ -40,13 +41,20 @@ pub enum FitAnswer {
     Steep(CoefPlace),
 }
 
+// Whether a distance is over a limit.
+fn is_over(limit: Tenths, d: Tenths) -> bool
+    ensures { λ r. ⌜ r ≡ over limit d ⌝ }
+{
+    limit.0 < d.0
+}
+
 // The verdict of check, and then that of the largest residual.
 fn judged_by(v: Verdict, max: Tenths) -> Verdict
     ensures { λ r. ⌜ r ≡ judgedBy v max ⌝ }
 {
     match v {
         Verdict::Pass => {
-            if max.0 > MAX_RESID {
+            if is_over(MAX_RESID, max) {
                 return Verdict::Resid;
             }
             Verdict::Pass
@@ -90,8 +98,8 @@ pub fn weigh(c: Cal, after: ResidAnswer, before: ResidAnswer, check: CheckAnswer
 }
 
 // The calibration that was found, or none at all.
-fn found(s: Solved) -> Cal
-    ensures { λ r. ⌜ r ≡ foundOf s ⌝ }
+fn cal_or_identity(s: Solved) -> Cal
+    ensures { λ r. ⌜ r ≡ calOrIdentity s ⌝ }
 {
     match s {
         Solved::Is(c) => c,
@@ -103,7 +111,7 @@ fn found(s: Solved) -> Cal
 
 // The fit of the first n pairs, judged over the first m targets. What check refuses it refuses for any
 // calibration, so that it is asked once, before anything else is refused, whether one was found or not.
-pub fn fit_of(pairs: [Pair; MAX_TAPS], n: usize, targets: [Point; MAX_TAPS], m: usize) -> FitAnswer
+pub fn fit_of(pairs: [Aim; MAX_TAPS], n: usize, targets: [Point; MAX_TAPS], m: usize) -> FitAnswer
     ensures { λ r. ⌜ r ≡ fitFirst n pairs m targets ⌝ }
 {
     let none = floats::no_cal();
@@ -111,7 +119,7 @@ pub fn fit_of(pairs: [Pair; MAX_TAPS], n: usize, targets: [Point; MAX_TAPS], m: 
         return FitAnswer::Refused(Refusal::Long);
     }
     let s = solving::solve(pairs, n);
-    let check = calmap::check_of(found(s), targets, m);
+    let check = calmap::check_of(cal_or_identity(s), targets, m);
     if let CheckAnswer::Refused(r) = check {
         return FitAnswer::Refused(r);
     }
@@ -128,7 +136,7 @@ pub fn fit_of(pairs: [Pair; MAX_TAPS], n: usize, targets: [Point; MAX_TAPS], m: 
 }
 
 // The fit of what is held of lent lists.
-pub fn fit_held(a: Pairs, t: Points) -> FitAnswer
+pub fn fit_held(a: Aims, t: Points) -> FitAnswer
     ensures { λ r. ⌜ r ≡ fitHeld a t ⌝ }
 {
     let pairs = a.list;

@@ -3,7 +3,7 @@
 // the map itself and its checks, is crate calmap.
 mod fitting;
 mod floats;
-mod lent;
+mod lists;
 mod moments;
 mod scpi;
 mod solving;
@@ -21,7 +21,7 @@ pub use floats::from_f32;
 pub use floats::no_cal;
 pub use floats::q16;
 pub use floats::to_f32;
-pub use lent::fit;
+pub use lists::fit;
 pub use scpi::Pending;
 pub use scpi::PutAnswer;
 pub use scpi::TakeAnswer;

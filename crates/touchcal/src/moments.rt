@@ -5,8 +5,8 @@ ghost use Prim.Native.Nat.{_≤_};
 ghost use lib.ListN.{take};
 ghost use Rattle.calmap.specs.Sizes.{longest};
 ghost use Rattle.touchcal.specs.Moments.{placeOf, addPair, totalsOf, sharedOf, addAbout, sumsOf, momentsOf};
+use calmap::Aim;
 use calmap::MAX_TAPS;
-use calmap::Pair;
 use calmap::Tap;
 
 // A tap in floats.
@@ -50,7 +50,7 @@ fn place_of(t: Tap) -> Place
 }
 
 // One pair more in the totals.
-fn add_pair(t: Means, p: Pair) -> Means
+fn add_pair(t: Means, p: Aim) -> Means
     ensures { λ r. ⌜ r ≡ addPair t p ⌝ }
 {
     let raw = place_of(p.raw);
@@ -64,7 +64,7 @@ fn add_pair(t: Means, p: Pair) -> Means
 }
 
 // The coordinates of the first n pairs, added up.
-fn totals(pairs: [Pair; MAX_TAPS], n: usize) -> Means
+fn totals(pairs: [Aim; MAX_TAPS], n: usize) -> Means
     requires { ⌜ n ≤ longest ⌝ }
     ensures { λ r. ⌜ r ≡ totalsOf (take n pairs) ⌝ }
 {
@@ -98,7 +98,7 @@ fn shared(t: Means, n: usize) -> Means
 }
 
 // One pair more in the sums.
-fn add_about(m: Means, s: Sums, p: Pair) -> Sums
+fn add_about(m: Means, s: Sums, p: Aim) -> Sums
     ensures { λ r. ⌜ r ≡ addAbout m s p ⌝ }
 {
     let raw = place_of(p.raw);
@@ -119,7 +119,7 @@ fn add_about(m: Means, s: Sums, p: Pair) -> Sums
 }
 
 // The products of the first n pairs about the means, added up.
-fn sums_about(pairs: [Pair; MAX_TAPS], n: usize, m: Means) -> Sums
+fn sums_about(pairs: [Aim; MAX_TAPS], n: usize, m: Means) -> Sums
     requires { ⌜ n ≤ longest ⌝ }
     ensures { λ r. ⌜ r ≡ sumsOf m (take n pairs) ⌝ }
 {
@@ -142,7 +142,7 @@ fn sums_about(pairs: [Pair; MAX_TAPS], n: usize, m: Means) -> Sums
 }
 
 // The means and the sums of the first n pairs.
-pub(crate) fn moments_of(pairs: [Pair; MAX_TAPS], n: usize) -> Moments
+pub(crate) fn moments_of(pairs: [Aim; MAX_TAPS], n: usize) -> Moments
     requires { ⌜ n ≤ longest ⌝ }
     ensures { λ r. ⌜ r ≡ momentsOf (take n pairs) ⌝ }
 {

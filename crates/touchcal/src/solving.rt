@@ -11,9 +11,9 @@ use crate::floats::Steps;
 use crate::moments;
 use crate::moments::Moments;
 use crate::moments::Sums;
+use calmap::Aim;
 use calmap::Cal;
 use calmap::MAX_TAPS;
-use calmap::Pair;
 
 // The fewest pairs that have an affine map.
 const FEWEST: usize = 3;
@@ -90,7 +90,7 @@ fn deltas(v: Coefs) -> Coefs
 }
 
 // The calibration nearest to the first n pairs, or why there is none.
-pub(crate) fn solve(pairs: [Pair; MAX_TAPS], n: usize) -> Solved
+pub(crate) fn solve(pairs: [Aim; MAX_TAPS], n: usize) -> Solved
     requires { ⌜ n ≤ longest ⌝ }
     ensures { λ r. ⌜ r ≡ solvedOf (take n pairs) ⌝ }
 {

@@ -1,10 +1,6 @@
 -- `calmap::checked::plus` meets its contract. Assumes nothing.
-use mathlib.Core.Path.{_≡_, _∙_}
-use lib.IntN.{ℤ, _+ℤ_}
-use mir.Syntax.{w32}
-use mir.Val.{toZ, ofZ}
 use borrow.Author.Needs.{needs}
-use Rattle.calmap.specs.Checked.{narrowOf, plusOf}
+use Rattle.calmap.specs.code.Checked.{plusOf}
 use Rattle.calmap.proofs.checked.plus.Statement.{statement}
 use Rattle.calmap.proofs.checked.plus.Tie as tie
 
@@ -34,11 +30,9 @@ add-requires c κs = search needs
 returns-3 : tie.Need-returns-3
 unfolding plusOf
 returns-3 c =
-    let x = c .before .before .before .before .before .a .given .0 .0 in
-    let y = c .before .before .b .given .0 .0 in
-    let ex : toZ w32 (ofZ w32 x) ≡ x = search needs in
-    let ey : toZ w32 (ofZ w32 y) ≡ y = search needs in
-    rw (c .before .before .before .before .before .a .given .1, c .before .before .b .given .1) (c .add .ensures ∙ (λ i. narrowOf (ex i +ℤ ey i)))
+    let b = c .before .before in
+    let a = b .before .before .before in
+    rw (a .a .given .1, b .b .given .1) (c .add .ensures)
 
 pub plus-spec : {M : Type 1} → statement M
 plus-spec =

@@ -4,7 +4,8 @@ use lib.IntN.{_*ℤ_}
 use mir.Syntax.{w32}
 use mir.Val.{toZ, ofZ}
 use borrow.Author.Needs.{needs}
-use Rattle.calmap.specs.Checked.{narrowOf}
+use Rattle.calmap.specs.Units.{steps}
+use Rattle.calmap.specs.code.Checked.{narrowOf}
 use Rattle.calmap.proofs.Signed.{plain}
 use Rattle.calmap.proofs.checked.scaled.Statement.{statement}
 use Rattle.calmap.proofs.checked.scaled.Tie as tie
@@ -16,7 +17,7 @@ returns : tie.Need-returns
 returns c =
     let s = c .before .before in
     let e : toZ w32 (ofZ w32 (s .args .q .0)) ≡ s .args .q .0 = search needs in
-    c .times .ensures ∙ (λ i. narrowOf (e i *ℤ plain (s .fits .x) i))
+    c .times .ensures ∙ (λ i. narrowOf (steps (e i *ℤ plain (s .fits .x) i)))
 
 pub scaled-spec : {M : Type 1} → statement M
 scaled-spec = tie.close (tie.spec times-requires returns)

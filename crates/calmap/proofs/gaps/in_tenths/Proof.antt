@@ -2,7 +2,7 @@
 use mathlib.Core.Path.{ap, _∙_}
 use native.Mathlib.Omega.{arith}
 use borrow.Author.Needs.{needs}
-use Rattle.calmap.specs.Distances.{tenths}
+use Rattle.calmap.specs.Units.{tenths}
 use Rattle.calmap.proofs.Rooted.{root-is, root-below-end}
 use Rattle.calmap.proofs.Tenths.{tenths-are, one-tenths, low-digits, by-root}
 use Rattle.calmap.proofs.gaps.in_tenths.Statement.{statement}
@@ -27,7 +27,7 @@ returns : tie.Need-returns
 returns c =
     let d2 = c .before .args .d2 in
     let root = root-is _ (add-isqrt (c .before) .fits) in
-    ap tenths (c .isqrt .ensures ∙ one-tenths (by-root _ d2 root) (tenths-are d2 (c .before .fits .d2 .fits)))
+    ap tenths (c .isqrt .ensures) ∙ one-tenths (by-root _ d2 root) (tenths-are d2 (c .before .fits .d2 .fits))
 
 pub in-tenths-spec : {M : Type 1} → statement M
 in-tenths-spec = tie.close (tie.spec mul-isqrt mul-isqrt-2 add-isqrt isqrt-requires cast-t9 returns)

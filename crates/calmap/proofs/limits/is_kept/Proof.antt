@@ -5,8 +5,8 @@ use mir.Syntax.{w32}
 use mir.Val.{toZ, ofZ, SFits}
 use borrow.Author.Needs.{needs}
 use Rattle.panel.proofs.Follow.{and-true, and-false}
-use Rattle.calmap.specs.Checked.{mapFits, spotOf}
 use Rattle.calmap.specs.Checks.{near, stays}
+use Rattle.calmap.specs.code.Checked.{mapFits, spotOf}
 use Rattle.calmap.proofs.Chains.{applied, not-applied}
 use Rattle.calmap.proofs.Signed.{plain}
 use Rattle.calmap.proofs.limits.is_kept.Statement.{statement}
@@ -40,8 +40,10 @@ is-near-requires-2 : tie.Need-is-near-requires-2
 is-near-requires-2 c κs = search needs
 
 -- where it lands
-lands : (c : tie.After-spot-at) → let a = c .before .before .before .before .before .args in c .spot-at .result ≡ spotOf (a .c) (pos (a .p .x)) (pos (a .p .y))
-lands c = c .spot-at .ensures ∙ (λ i. spotOf (c .before .before .before .before .before .args .c) (read-x (c .before .before .before) i) (read-y (c .before .before .before) i))
+lands : (c : tie.After-spot-at) → let y = c .before .before .before in let a = y .before .before .args in c .spot-at .result ≡ spotOf (a .c) (pos (a .p .x)) (pos (a .p .y))
+lands c =
+    let y = c .before .before .before in
+    c .spot-at .ensures ∙ (λ i. spotOf (y .before .before .args .c) (read-x y i) (read-y y i))
 
 returns : tie.Need-returns
 unfolding stays

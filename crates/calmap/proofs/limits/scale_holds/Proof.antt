@@ -19,11 +19,17 @@ is-mild-requires-4 c κs = search needs
 
 returns : tie.Need-returns
 unfolding scaleHolds
-returns c = search (follow, ← c .is-mild4 .ensures, ← c .before .before .is-mild3 .ensures, ← c .before .before .before .before .is-mild2 .ensures, ← c .before .before .before .before .before .before .is-mild .ensures)
+returns c =
+    let d = c .before .before in
+    let b = d .before .before in
+    search (follow, ← c .is-mild4 .ensures, ← d .is-mild3 .ensures, ← b .is-mild2 .ensures, ← b .before .before .is-mild .ensures)
 
 returns-2 : tie.Need-returns-2
 unfolding scaleHolds
-returns-2 c = search (follow, ← c .before .is-mild3 .ensures, ← c .before .before .before .is-mild2 .ensures, ← c .before .before .before .before .before .is-mild .ensures)
+returns-2 c =
+    let d = c .before in
+    let b = d .before .before in
+    search (follow, ← d .is-mild3 .ensures, ← b .is-mild2 .ensures, ← b .before .before .is-mild .ensures)
 
 returns-3 : tie.Need-returns-3
 unfolding scaleHolds

@@ -1,7 +1,7 @@
 -- `calmap::mapping::apply16` meets its contract. Assumes nothing.
 use mathlib.Core.Path.{_≡_, sym, ap, _∙_}
 use borrow.Author.Needs.{needs}
-use Rattle.calmap.specs.Checked.{mapFits, spotOf}
+use Rattle.calmap.specs.code.Checked.{mapFits, spotOf}
 use Rattle.calmap.specs.declared.mapping.ApplyAnswer.the-variants.{Answered}
 use Rattle.calmap.proofs.Chains.{applied, not-applied}
 use Rattle.calmap.proofs.Signed.{plain}

@@ -2,9 +2,9 @@
 use mathlib.Core.Path.{_≡_, sym, ap, _∙_}
 use borrow.Author.Needs.{needs}
 use Rattle.panel.proofs.Follow.{and-true, and-false}
-use Rattle.calmap.specs.Checked.{bothFit}
 use Rattle.calmap.specs.Maps.{lineFits}
 use Rattle.calmap.specs.Wide.{in16}
+use Rattle.calmap.specs.code.Checked.{bothFit}
 use Rattle.calmap.proofs.Signed.{plain}
 use Rattle.calmap.proofs.mapping.both_fit.Statement.{statement}
 use Rattle.calmap.proofs.mapping.both_fit.Tie as tie
@@ -17,16 +17,18 @@ test-x c = c .in-i16 .ensures ∙ ap in16 (plain (c .before .fits .x))
 test-y : (c : tie.After-in-i162) → c .in-i162 .result ≡ in16 (c .before .before .before .args .y)
 test-y c = c .in-i162 .ensures ∙ ap in16 (plain (c .before .before .before .fits .y))
 
-line-x : (c : tie.After-line-fits) → let a = c .before .before .before .before .before .args in c .line-fits .result ≡ lineFits (a .x) (a .a) (a .b) (a .c) (a .x) (a .y)
+line-x : (c : tie.After-line-fits) → let y = c .before .before in let a = y .before .before .before .args in c .line-fits .result ≡ lineFits (a .x) (a .a) (a .b) (a .c) (a .x) (a .y)
 line-x c =
-    let s = c .before .before .before .before .before in
+    let y = c .before .before in
+    let s = y .before .before .before in
     let a = s .args in
     let px = plain (s .fits .x) in
     c .line-fits .ensures ∙ (λ i. lineFits (px i) (a .a) (a .b) (a .c) (px i) (plain (s .fits .y) i))
 
-line-y : (c : tie.After-line-fits2) → let a = c .before .before .before .before .before .before .before .args in c .line-fits2 .result ≡ lineFits (a .y) (a .d) (a .e) (a .f) (a .x) (a .y)
+line-y : (c : tie.After-line-fits2) → let y = c .before .before .before .before in let a = y .before .before .before .args in c .line-fits2 .result ≡ lineFits (a .y) (a .d) (a .e) (a .f) (a .x) (a .y)
 line-y c =
-    let s = c .before .before .before .before .before .before .before in
+    let y = c .before .before .before .before in
+    let s = y .before .before .before in
     let a = s .args in
     let py = plain (s .fits .y) in
     c .line-fits2 .ensures ∙ (λ i. lineFits (py i) (a .d) (a .e) (a .f) (plain (s .fits .x) i) (py i))

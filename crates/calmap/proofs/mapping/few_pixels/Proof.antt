@@ -5,7 +5,7 @@ use lib.IntN.{ℤ, pos, negsuc}
 use lib.Signed.{ltZ}
 use borrow.Author.Needs.{needs}
 use borrow.Author.Tests.{le-ltb}
-use Rattle.calmap.specs.Checked.{fewPixels}
+use Rattle.calmap.specs.code.Checked.{fewPixels}
 use Rattle.calmap.proofs.Signed.{plain, below-low, from-low}
 use Rattle.calmap.proofs.mapping.few_pixels.Statement.{statement}
 use Rattle.calmap.proofs.mapping.few_pixels.Tie as tie

@@ -1,7 +1,7 @@
 -- `calmap::mapping::fits` meets its contract. Assumes nothing.
 use mathlib.Core.Path.{sym, ap, _∙_}
 use borrow.Author.Needs.{needs}
-use Rattle.calmap.specs.Checked.{bothFit, mapFits, fewPixels}
+use Rattle.calmap.specs.code.Checked.{bothFit, mapFits, fewPixels}
 use Rattle.calmap.proofs.Signed.{plain}
 use Rattle.calmap.proofs.Slight.{slight-fits}
 use Rattle.calmap.proofs.mapping.fits.Statement.{statement}
@@ -32,7 +32,8 @@ both-fit-requires c κs = search needs
 returns-2 : tie.Need-returns-2
 unfolding mapFits
 returns-2 c =
-    let s = c .before .before .before .before .before in
+    let x = c .before .before in
+    let s = x .before .before .before in
     let k = s .args .c in
     c .both-fit .ensures ∙ (λ i. bothFit (k .c0) (k .c1) (k .c2) (k .c3) (k .c4) (k .c5) (plain (s .fits .x) i) (plain (s .fits .y) i))
 

@@ -1,12 +1,9 @@
 -- `calmap::mapping::line_at` meets its contract. Assumes nothing.
 use mathlib.Core.Path.{_≡_, ap, _∙_}
-use lib.IntN.{ℤ, pos, _+ℤ_, _*ℤ_}
-use mir.Syntax.{w32}
-use mir.Val.{toZ, ofZ, SFits}
-use borrow.Author.Needs.{needs}
+use lib.IntN.{ℤ}
 use Rattle.calmap.specs.Maps.{line}
-use Rattle.calmap.specs.Sizes.{one}
-use Rattle.calmap.specs.Wide.{in32}
+use Rattle.calmap.specs.Units.{wholeSteps, _·_, _⊞_, stepsFit}
+use Rattle.calmap.specs.declared.units.Q16.{Q16}
 use Rattle.calmap.proofs.Signed.{plain}
 use Rattle.calmap.proofs.Slight.{Fits, apart}
 use Rattle.calmap.proofs.mapping.line_at.Statement.{statement}
@@ -15,74 +12,66 @@ use Rattle.calmap.proofs.mapping.line_at.Tie as tie
 known : (c : tie.Start) → Fits (c .args .v) (c .args .p) (c .args .q) (c .args .k) (c .args .x) (c .args .y)
 known c = apart _ _ _ _ _ _ (c .pre)
 
--- what is read back: the coefficients, the products and the partial sums
+-- the products and the partial sums
 
-read-p : (c : tie.After-struct-told) → toZ w32 (ofZ w32 (c .before .before .args .p .0)) ≡ c .before .before .args .p .0
-read-p c = search (needs, c .struct-told .given)
+whole : (c : tie.After-whole-at) → c .whole-at .result ≡ wholeSteps (c .before .args .v)
+whole c = c .whole-at .ensures ∙ ap (λ (z : ℤ). wholeSteps z) (plain (c .before .fits .v))
 
-read-q : (c : tie.After-struct-told2) → let a = c .before .before .before .before .before .args in toZ w32 (ofZ w32 (a .q .0)) ≡ a .q .0
-read-q c = search (needs, c .struct-told2 .given)
-
-read-k : (c : tie.After-struct-told3) → let a = c .before .before .before .before .before .before .before .before .args in toZ w32 (ofZ w32 (a .k .0)) ≡ a .k .0
-read-k c = search (needs, c .struct-told3 .given)
-
-whole : (c : tie.After-product) → toZ w32 (ofZ w32 (c .product .result)) ≡ c .before .args .v *ℤ pos one
-whole c =
-    let f : SFits w32 (c .product .result) = search needs in
-    plain f ∙ c .product .ensures ∙ ap (λ (z : ℤ). z *ℤ pos one) (plain (c .before .fits .v))
-
-part : (c : tie.After-product2) → let a = c .before .before .before .args in toZ w32 (ofZ w32 (c .product2 .result)) ≡ a .p .0 *ℤ a .x
+part : (c : tie.After-scaled-at) → let a = c .before .before .args in c .scaled-at .result ≡ a .p · a .x
 part c =
-    let f : SFits w32 (c .product2 .result) = search needs in
-    plain f ∙ c .product2 .ensures ∙ (λ i. read-p (c .before) i *ℤ plain (c .before .before .before .fits .x) i)
+    let s = c .before .before in
+    c .scaled-at .ensures ∙ ap (λ (z : ℤ). s .args .p · z) (plain (s .fits .x))
 
-both : (c : tie.After-sum) → let a = c .before .before .before .before .args in toZ w32 (ofZ w32 (c .sum .result)) ≡ a .v *ℤ pos one +ℤ a .p .0 *ℤ a .x
-both c =
-    let f : SFits w32 (c .sum .result) = search needs in
-    plain f ∙ c .sum .ensures ∙ (λ i. whole (c .before .before .before) i +ℤ part (c .before) i)
+both : (c : tie.After-sum-at) → let a = c .before .before .before .args in c .sum-at .result ≡ wholeSteps (a .v) ⊞ a .p · a .x
+both c = c .sum-at .ensures ∙ (λ i. whole (c .before .before) i ⊞ part (c .before) i)
 
-other : (c : tie.After-product3) → let a = c .before .before .before .before .before .before .args in toZ w32 (ofZ w32 (c .product3 .result)) ≡ a .q .0 *ℤ a .y
+other : (c : tie.After-scaled-at2) → let a = c .before .before .before .before .args in c .scaled-at2 .result ≡ a .q · a .y
 other c =
-    let f : SFits w32 (c .product3 .result) = search needs in
-    plain f ∙ c .product3 .ensures ∙ (λ i. read-q (c .before) i *ℤ plain (c .before .before .before .before .before .before .fits .y) i)
+    let s = c .before .before .before .before in
+    c .scaled-at2 .ensures ∙ ap (λ (z : ℤ). s .args .q · z) (plain (s .fits .y))
 
-three : (c : tie.After-sum2) → let a = c .before .before .before .before .before .before .before .args in toZ w32 (ofZ w32 (c .sum2 .result)) ≡ a .v *ℤ pos one +ℤ a .p .0 *ℤ a .x +ℤ a .q .0 *ℤ a .y
-three c =
-    let f : SFits w32 (c .sum2 .result) = search needs in
-    plain f ∙ c .sum2 .ensures ∙ (λ i. both (c .before .before .before) i +ℤ other (c .before) i)
+three : (c : tie.After-sum-at2) → let s = c .before .before in let a = s .before .before .before .args in c .sum-at2 .result ≡ wholeSteps (a .v) ⊞ a .p · a .x ⊞ a .q · a .y
+three c = c .sum-at2 .ensures ∙ (λ i. both (c .before .before) i ⊞ other (c .before) i)
 
-product-requires : tie.Need-product-requires
-product-requires c κs = ap (λ (z : ℤ). in32 (z *ℤ pos one)) (plain (c .fits .v)) ∙ known c .whole
+whole-at-requires : tie.Need-whole-at-requires
+whole-at-requires c κs = ap (λ (z : ℤ). stepsFit (wholeSteps z)) (plain (c .fits .v)) ∙ known c .whole
 
-product-requires-2 : tie.Need-product-requires-2
-product-requires-2 c κs = (λ i. in32 (read-p c i *ℤ plain (c .before .before .fits .x) i)) ∙ known (c .before .before) .part
+scaled-at-requires : tie.Need-scaled-at-requires
+scaled-at-requires c κs =
+    let s = c .before in
+    ap (λ (z : ℤ). stepsFit (s .args .p · z)) (plain (s .fits .x)) ∙ known s .part
 
-sum-requires : tie.Need-sum-requires
-sum-requires c κs = (λ i. in32 (whole (c .before .before) i +ℤ part c i)) ∙ known (c .before .before .before) .both
+sum-at-requires : tie.Need-sum-at-requires
+sum-at-requires c κs = (λ i. stepsFit (whole (c .before) i ⊞ part c i)) ∙ known (c .before .before) .both
 
-product-requires-3 : tie.Need-product-requires-3
-product-requires-3 c κs = (λ i. in32 (read-q c i *ℤ plain (c .before .before .before .before .before .fits .y) i)) ∙ known (c .before .before .before .before .before) .other
+scaled-at-requires-2 : tie.Need-scaled-at-requires-2
+scaled-at-requires-2 c κs =
+    let s = c .before .before .before in
+    ap (λ (z : ℤ). stepsFit (s .args .q · z)) (plain (s .fits .y)) ∙ known s .other
 
-sum-requires-2 : tie.Need-sum-requires-2
-sum-requires-2 c κs = (λ i. in32 (both (c .before .before) i +ℤ other c i)) ∙ known (c .before .before .before .before .before .before) .three
+sum-at-requires-2 : tie.Need-sum-at-requires-2
+sum-at-requires-2 c κs = (λ i. stepsFit (both (c .before) i ⊞ other c i)) ∙ known (c .before .before .before .before) .three
 
-sum-requires-3 : tie.Need-sum-requires-3
-sum-requires-3 c κs = (λ i. in32 (three (c .before) i +ℤ read-k c i)) ∙ known (c .before .before .before .before .before .before .before .before) .all
+sum-at-requires-3 : tie.Need-sum-at-requires-3
+sum-at-requires-3 c κs =
+    let s = c .before .before in
+    let a = s .before .before .before in
+    ap (λ (z : Q16). stepsFit (z ⊞ a .args .k)) (three c) ∙ known a .all
 
 returns : tie.Need-returns
 unfolding line
 returns c =
-    let f : SFits w32 (c .sum3 .result) = search needs in
-    plain f ∙ c .sum3 .ensures ∙ (λ i. three (c .before .before) i +ℤ read-k (c .before) i)
+    let s = c .before .before .before in
+    c .sum-at3 .ensures ∙ ap (λ (z : Q16). z ⊞ s .before .before .before .args .k) (three (c .before))
 
 pub line-at-spec : {M : Type 1} → statement M
 line-at-spec =
     tie.close
     (tie.spec
-    product-requires
-    product-requires-2
-    sum-requires
-    product-requires-3
-    sum-requires-2
-    sum-requires-3
+    whole-at-requires
+    scaled-at-requires
+    sum-at-requires
+    scaled-at-requires-2
+    sum-at-requires-2
+    sum-at-requires-3
     returns)

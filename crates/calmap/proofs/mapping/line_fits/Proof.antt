@@ -1,7 +1,7 @@
 -- `calmap::mapping::line_fits` meets its contract. Assumes nothing.
 use mathlib.Core.Path.{_≡_, sym, _∙_}
 use borrow.Author.Needs.{needs}
-use Rattle.calmap.specs.Checked.{lineOf}
+use Rattle.calmap.specs.code.Checked.{lineOf}
 use Rattle.calmap.proofs.Chains.{line-told-in, line-told-wide}
 use Rattle.calmap.proofs.Signed.{plain}
 use Rattle.calmap.proofs.mapping.line_fits.Statement.{statement}

@@ -1,13 +1,10 @@
 -- `calmap::mapping::spot_at` meets its contract. Assumes nothing.
 use mathlib.Core.Path.{ap, _∙_}
-use mir.Syntax.{w32}
-use mir.Val.{SFits}
 use borrow.Author.Needs.{needs}
-use Rattle.calmap.specs.Checked.{spotOf}
 use Rattle.calmap.specs.Maps.{line, lineFits, spot}
-use Rattle.calmap.specs.Sizes.{twelve}
-use Rattle.calmap.specs.Wide.{down}
-use Rattle.calmap.proofs.Floors.{shift-is}
+use Rattle.calmap.specs.Units.{downTwelve}
+use Rattle.calmap.specs.code.Checked.{spotOf}
+use Rattle.calmap.specs.declared.units.Q16.{Q16}
 use Rattle.calmap.proofs.Signed.{plain}
 use Rattle.calmap.proofs.Slight.{line-of-x, line-of-y}
 use Rattle.calmap.proofs.mapping.spot_at.Statement.{statement}
@@ -26,20 +23,26 @@ line-at-requires-2 c κs =
     let py = plain (s .fits .y) in
     (λ i. lineFits (py i) (k .c3) (k .c4) (k .c5) (plain (s .fits .x) i) (py i)) ∙ line-of-y _ _ _ (s .pre)
 
+down-twelve-requires : tie.Need-down-twelve-requires
+down-twelve-requires c κs = search needs
+
+down-twelve-requires-2 : tie.Need-down-twelve-requires-2
+down-twelve-requires-2 c κs = search needs
+
 returns : tie.Need-returns
 unfolding spotOf
 returns c =
-    let s = c .before .before in
+    let v = c .before .before in
+    let u = v .before in
+    let s = u .before in
     let k = s .args .c in
     let px = plain (s .fits .x) in
     let py = plain (s .fits .y) in
-    let u = c .before .line-at in
-    let v = c .line-at2 in
-    let fu : SFits w32 (u .result) = search needs in
-    let fv : SFits w32 (v .result) = search needs in
-    let eu = shift-is (u .result) twelve fu ∙ ap (down twelve) (u .ensures ∙ (λ i. line (px i) (k .c0) (k .c1) (k .c2) (px i) (py i))) in
-    let ev = shift-is (v .result) twelve fv ∙ ap (down twelve) (v .ensures ∙ (λ i. line (py i) (k .c3) (k .c4) (k .c5) (px i) (py i))) in
+    let line-x = u .line-at .ensures ∙ (λ i. line (px i) (k .c0) (k .c1) (k .c2) (px i) (py i)) in
+    let line-y = v .line-at2 .ensures ∙ (λ i. line (py i) (k .c3) (k .c4) (k .c5) (px i) (py i)) in
+    let eu = c .before .down-twelve .ensures ∙ ap (λ (q : Q16). downTwelve q) line-x in
+    let ev = c .down-twelve2 .ensures ∙ ap (λ (q : Q16). downTwelve q) line-y in
     λ i. spot (eu i) (ev i)
 
 pub spot-at-spec : {M : Type 1} → statement M
-spot-at-spec = tie.close (tie.spec line-at-requires line-at-requires-2 returns)
+spot-at-spec = tie.close (tie.spec line-at-requires line-at-requires-2 down-twelve-requires down-twelve-requires-2 returns)

@@ -7,37 +7,50 @@ use mir.Syntax.{w16, w32}
 use mir.Val.{toZ, ofZ, SFits}
 use mir.ValLaws.{toZ-ofZ}
 use borrow.Author.Needs.{needs}
-use Rattle.calmap.specs.Checked.{farthest, squareIn}
 use Rattle.calmap.specs.Distances.{gapOf}
 use Rattle.calmap.specs.Maps.{applyOf}
-use Rattle.calmap.specs.Resids.{inSixteenths, missOf}
+use Rattle.calmap.specs.Resids.{missOf}
+use Rattle.calmap.specs.Units.{inSixteenths}
+use Rattle.calmap.specs.code.Checked.{farthest, squareIn}
 use Rattle.calmap.specs.declared.gaps.Gap.{Gap}
 use Rattle.calmap.proofs.Bounds.{applied-size, miss-at-most}
 use Rattle.calmap.proofs.Signed.{plain}
 use Rattle.calmap.proofs.residuals.miss.Statement.{statement}
 use Rattle.calmap.proofs.residuals.miss.Tie as tie
 
-read-x : (c : tie.After-struct-told) → toZ w16 (ofZ w16 (c .before .before .before .args .p .raw .x)) ≡ c .before .before .before .args .p .raw .x
+-- from a step back to the start, and to what `apply16` answered
+abbrev start : tie.After-apply16 → tie.Start
+start c =
+    let y = c .before in
+    let x = y .before .before in
+    x .before .before .before .before
+
+abbrev applied : tie.After-struct-told3 → tie.After-apply16
+applied c =
+    let s = c .before .before in
+    s .before .before
+
+read-x : (c : tie.After-struct-told) → let a = c .before .before .before .args in toZ w16 (ofZ w16 (a .p .raw .x)) ≡ a .p .raw .x
 read-x c = search (needs, c .struct-told .given)
 
-read-y : (c : tie.After-struct-told2) → toZ w16 (ofZ w16 (c .before .before .before .before .before .args .p .raw .y)) ≡ c .before .before .before .before .before .args .p .raw .y
+read-y : (c : tie.After-struct-told2) → let x = c .before in let a = x .before .before .before .before .args in toZ w16 (ofZ w16 (a .p .raw .y)) ≡ a .p .raw .y
 read-y c = search (needs, c .struct-told2 .given .1)
 
-fits-x : (c : tie.After-struct-told3) → SFits w16 (c .before .before .before .before .before .before .before .before .before .before .before .args .p .tgt .x)
+fits-x : (c : tie.After-struct-told3) → SFits w16 (start (applied c) .args .p .tgt .x)
 fits-x c = search (needs, c .struct-told3 .given)
 
-fits-y : (c : tie.After-struct-told4) → SFits w16 (c .before .before .before .before .before .before .before .before .before .before .before .before .before .args .p .tgt .y)
+fits-y : (c : tie.After-struct-told4) → SFits w16 (start (applied (c .before .before)) .args .p .tgt .y)
 fits-y c = search (needs, c .struct-told4 .given .1)
 
-asked : (c : tie.After-apply16) → c .apply16 .result ≡ applyOf (c .before .before .before .before .before .before .before .args .c) (c .before .before .before .before .before .before .before .args .p .raw .x) (c .before .before .before .before .before .before .before .args .p .raw .y)
+asked : (c : tie.After-apply16) → let a = start c .args in c .apply16 .result ≡ applyOf (a .c) (a .p .raw .x) (a .p .raw .y)
 asked c =
-    let x = c .before .before .before .of-i16 in
-    let y = c .before .of-i162 in
-    let fx : SFits w32 (x .result) = search needs in
-    let fy : SFits w32 (y .result) = search needs in
-    let ex = plain fx ∙ x .ensures ∙ read-x (c .before .before .before .before) in
-    let ey = plain fy ∙ y .ensures ∙ read-y (c .before .before) in
-    c .apply16 .ensures ∙ (λ i. applyOf (c .before .before .before .before .before .before .before .args .c) (ex i) (ey i))
+    let y = c .before in
+    let x = y .before .before in
+    let fx : SFits w32 (x .of-i16 .result) = search needs in
+    let fy : SFits w32 (y .of-i162 .result) = search needs in
+    let ex = plain fx ∙ x .of-i16 .ensures ∙ read-x (x .before) in
+    let ey = plain fy ∙ y .of-i162 .ensures ∙ read-y (y .before) in
+    c .apply16 .ensures ∙ (λ i. applyOf (start c .args .c) (ex i) (ey i))
 
 of-i16-requires : tie.Need-of-i16-requires
 of-i16-requires c κs = search needs
@@ -70,12 +83,16 @@ gap-between-requires c κs = search needs
 returns-2 : tie.Need-returns-2
 unfolding missOf
 returns-2 c =
-    let s = c .before .before .before .before .before .before .before .before .before .before .before .before .before .before .before .args in
-    let at = sym (asked (c .before .before .before .before .before .before .before .before)) ∙ c .before .before .before .before .before .before .s .given .1 in
-    let p = c .before .before .before .before .before .before .s .given .0 .0 in
-    let fx = fits-x (c .before .before .before .before) in
-    let fy = fits-y (c .before .before) in
-    let ex = c .before .before .before .tap-in-16 .ensures ∙ ap (λ (z : ℤ). inSixteenths z) (toZ-ofZ w16 (s .p .tgt .x) fx) in
+    let y = c .before .before in
+    let x = y .before .before in
+    let a = applied x in
+    let s = start a .args in
+    let known = x .before .before .s .given in
+    let p = known .0 .0 in
+    let at = sym (asked a) ∙ known .1 in
+    let fx = fits-x x in
+    let fy = fits-y y in
+    let ex = y .before .tap-in-16 .ensures ∙ ap (λ (z : ℤ). inSixteenths z) (toZ-ofZ w16 (s .p .tgt .x) fx) in
     let ey = c .before .tap-in-162 .ensures ∙ ap (λ (z : ℤ). inSixteenths z) (toZ-ofZ w16 (s .p .tgt .y) fy) in
     let e = c .gap-between .ensures ∙ (λ i. gapOf (p .0) (p .1) (ex i) (ey i)) in
     let lands = applied-size (s .c) (s .p .raw .x) (s .p .raw .y) p at in

@@ -1,15 +1,7 @@
 -- `calmap::screens::placed` meets its contract. Assumes nothing.
-use Prim.Native.Nat.{_-_}
-use mathlib.Core.Path.{ap, _∙_}
-use lib.IntN.{ℤ}
-use mir.Syntax.{w32}
-use mir.Val.{SFits}
 use borrow.Author.Needs.{needs}
-use Rattle.panel.specs.Sizes.{width, height}
-use Rattle.calmap.specs.Checked.{placedOf}
-use Rattle.calmap.specs.Screening.{moved}
+use Rattle.calmap.specs.code.Checked.{placedOf}
 use Rattle.calmap.specs.declared.screens.ScreenAnswer.the-variants.{Answered}
-use Rattle.calmap.proofs.Signed.{plain}
 use Rattle.calmap.proofs.screens.placed.Statement.{statement}
 use Rattle.calmap.proofs.screens.placed.Tie as tie
 
@@ -48,15 +40,9 @@ shifted-requires-2 c κs = search needs
 returns-3 : tie.Need-returns-3
 unfolding placedOf
 returns-3 c =
-    let k = c .before .before in
-    let p = c .before .before .before .before .before .before .before .before .args .p in
-    let u = k .before .before .before .before .dx .given .0 .0 in
-    let v = k .before .dy .given .0 .0 in
-    let fu : SFits w32 u = search needs in
-    let fv : SFits w32 v = search needs in
-    let ex = c .before .shifted .ensures ∙ ap (λ (z : ℤ). moved (width - 1) (p .x) z) (plain fu) in
-    let ey = c .shifted2 .ensures ∙ ap (λ (z : ℤ). moved (height - 1) (p .y) z) (plain fv) in
-    rw (k .before .before .before .before .dx .given .1, k .before .dy .given .1) (λ i. Answered (record { x = ex i; y = ey i }))
+    let dy = c .before .before .before in
+    let dx = dy .before .before .before in
+    rw (dx .dx .given .1, dy .dy .given .1) (λ i. Answered (record { x = c .before .shifted .ensures i; y = c .shifted2 .ensures i }))
 
 pub placed-spec : {M : Type 1} → statement M
 placed-spec =

@@ -1,12 +1,10 @@
 -- `calmap::screens::shifted` meets its contract. Assumes nothing.
-use mathlib.Core.Path.{_≡_, ap, _∙_}
-use lib.IntN.{ℤ, pos, _+ℤ_}
+use mathlib.Core.Path.{ap, _∙_}
+use lib.IntN.{ℤ}
 use mir.Syntax.{w32}
 use mir.Val.{SFits}
 use borrow.Author.Needs.{needs}
 use Rattle.calmap.specs.Screening.{clamp, moved}
-use Rattle.calmap.specs.Sizes.{sixteen}
-use Rattle.calmap.specs.Wide.{down}
 use Rattle.calmap.proofs.Signed.{plain}
 use Rattle.calmap.proofs.screens.shifted.Statement.{statement}
 use Rattle.calmap.proofs.screens.shifted.Tie as tie
@@ -23,8 +21,7 @@ returns c =
     let s = c .before .before in
     let m = c .before .moved-by .result in
     let f : SFits w32 m = search needs in
-    let e : m ≡ pos (s .args .v) +ℤ down sixteen (s .args .s) = c .before .moved-by .ensures ∙ ap (λ (z : ℤ). pos (s .args .v) +ℤ down sixteen z) (plain (s .fits .s)) in
-    c .clamped .ensures ∙ ap (λ (z : ℤ). clamp (s .args .last) z) (plain f ∙ e)
+    c .clamped .ensures ∙ ap (λ (z : ℤ). clamp (s .args .last) z) (plain f ∙ c .before .moved-by .ensures)
 
 pub shifted-spec : {M : Type 1} → statement M
 shifted-spec = tie.close (tie.spec moved-by-requires clamped-requires returns)

@@ -3,7 +3,7 @@ use Prim.Native.Nat.{ℕ, _<_, _*_, _/_}
 use mathlib.Core.Path.{ap}
 use native.Mathlib.Omega.{arith}
 use borrow.Author.Needs.{needs}
-use Rattle.calmap.specs.Distances.{tenths}
+use Rattle.calmap.specs.Units.{tenths}
 use Rattle.calmap.specs.Sizes.{sixteenthsIn}
 use Rattle.calmap.proofs.Laws.{root-fits}
 use Rattle.oldtenths.specs.OldTenths.{tenthsIn, oldTenthsOf}

@@ -1,14 +1,13 @@
 -- `oldtenths::residuals::old_resid_of` meets its contract: the loop's sum and largest, and the distances still to come, make the
 -- whole (calmap's Tallying). Assumes nothing.
-use Prim.Native.Nat.{ℕ, _+_, _*_, _-_, _≤_}
-use mathlib.Core.Path.{_≡_, sym, ap, subst, _∙_}
+use Prim.Native.Nat.{_+_, _*_, _-_, _≤_}
+use mathlib.Core.Path.{_≡_, sym, subst, _∙_}
 use native.Mathlib.Omega.{arith}
 use lib.ListN.{length}
 use borrow.Author.Needs.{needs}
-use Rattle.calmap.specs.Checked.{farthest, farthestTenths, squareIn}
+use Rattle.calmap.specs.code.Checked.{farthest, farthestTenths, squareIn}
 use Rattle.calmap.specs.Resids.{residFirstBy}
 use Rattle.calmap.specs.declared.gaps.Gap.{Gap}
-use Rattle.calmap.specs.declared.units.Tenths.{Tenths}
 use Rattle.calmap.proofs.Firsts.{resid-long}
 use Rattle.calmap.proofs.Tallying.{spreadFrom, missesFrom, resid-none, loop-first, loop-next, loop-stops, loop-ends}
 use Rattle.oldtenths.specs.OldTenths.{oldTenthsOf}
@@ -18,7 +17,7 @@ use Rattle.oldtenths.proofs.residuals.old_resid_of.Tie as tie
 
 abbrev Inv-loop : tie.InvT-loop
 Inv-loop c n pairs sum₀ most₀ i₀ sum most i =
-    (i ≤ n) × (sum ≤ farthestTenths * i) × (residFirstBy oldTenthsOf c n pairs ≡ spreadFrom oldTenthsOf n sum most (missesFrom c n pairs i))
+    (i ≤ n) × (sum .0 ≤ farthestTenths * i) × (residFirstBy oldTenthsOf c n pairs ≡ spreadFrom oldTenthsOf n sum most (missesFrom c n pairs i))
 
 abbrev μ-loop : tie.MeasureT-loop
 μ-loop c n pairs sum₀ most₀ i₀ sum most i = n - i
@@ -70,13 +69,13 @@ returns-3 c =
 in-old-tenths-requires : tie.Need-in-old-tenths-requires Inv-loop μ-loop
 in-old-tenths-requires c κs = search needs
 
-add-sum : tie.Need-add-sum Inv-loop μ-loop
-add-sum c =
-    let d = near (c .before) in
-    record { fits = omega arith }
+together-requires : tie.Need-together-requires Inv-loop μ-loop
+together-requires c κs =
+    let d = near c in
+    omega arith
 
-larger-requires : tie.Need-larger-requires Inv-loop μ-loop
-larger-requires c κs = search needs
+farther-requires : tie.Need-farther-requires Inv-loop μ-loop
+farther-requires c κs = search needs
 
 add-i : tie.Need-add-i Inv-loop μ-loop
 add-i c = search needs
@@ -92,21 +91,23 @@ loop-again c =
     let l = m .before .before .before in
     let s = l .before .before .before .args in
     let d = near t in
-    let next = loop-next oldTenthsOf (s .c) (s .n) (s .t2) (held (l .before)) (l .loop .i) (l .loop .sum) (l .loop .most) (m .miss .result) (omega arith) (m .miss .ensures .0) (d2 .0 .0) (t .in-old-tenths .result .0) (d2 .1) (ap (λ (x : Tenths). x .0) (t .in-old-tenths .ensures)) in (
+    let next = loop-next oldTenthsOf (s .c) (s .n) (s .t2) (held (l .before)) (l .loop .i) (l .loop .sum) (l .loop .most) (m .miss .result) (omega arith) (m .miss .ensures .0) (d2 .0 .0) (t .in-old-tenths .result) (d2 .1) (t .in-old-tenths .ensures) in
+    let sum = sym (c .before .together .ensures) in
+    let most = sym (c .farther .ensures) in (
       omega arith,
-      omega arith,
-      l .loop .inv .2 ∙ next ∙ ap (λ (k : ℕ). spreadFrom oldTenthsOf (s .n) (l .loop .sum + t .in-old-tenths .result .0) k (missesFrom (s .c) (s .n) (s .t2) (l .loop .i + 1))) (sym (c .larger .ensures)),
+      rw (c .before .together .ensures) (omega arith),
+      l .loop .inv .2 ∙ next ∙ (λ j. spreadFrom oldTenthsOf (s .n) (sum j) (most j) (missesFrom (s .c) (s .n) (s .t2) (l .loop .i + 1))),
     )
 
 cast-t23 : tie.Need-cast-t23 Inv-loop μ-loop
 cast-t23 c = search needs
 
 div-t24 : tie.Need-div-t24 Inv-loop μ-loop
-div-t24 c = omega (arith, c .before .before .if2 .left)
+div-t24 c = let l = c .before in omega (arith, l .before .before .if2 .left)
 
 returns-4 : tie.Need-returns-4 Inv-loop μ-loop
 returns-4 c =
-    let l = c .before in
+    let l = c .before .before in
     let s = l .before .before .before .args in
     sym (l .loop .inv .2 ∙ loop-ends oldTenthsOf (s .c) (s .n) (s .t2) (held (l .before)) (l .loop .i) (l .loop .sum) (l .loop .most) (omega arith))
 
@@ -126,8 +127,8 @@ old-resid-of-spec =
     enum-told
     returns-3
     in-old-tenths-requires
-    add-sum
-    larger-requires
+    together-requires
+    farther-requires
     add-i
     loop-less
     loop-again

@@ -1,6 +1,6 @@
 -- `touchcal::fitting::fit_held` meets its contract. Assumes nothing.
 use Rattle.panel.proofs.Follow.{follow}
-use Rattle.touchcal.specs.Held.{fitHeld}
+use Rattle.touchcal.specs.code.Arrays.{fitHeld}
 use borrow.Author.Needs.{needs}
 use Rattle.touchcal.proofs.fitting.fit_held.Statement.{statement}
 use Rattle.touchcal.proofs.fitting.fit_held.Tie as tie

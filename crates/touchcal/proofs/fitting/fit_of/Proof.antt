@@ -20,8 +20,8 @@ returns c =
 solve-requires : tie.Need-solve-requires
 solve-requires c κs = search needs
 
-found-requires : tie.Need-found-requires
-found-requires c κs = search needs
+cal-or-identity-requires : tie.Need-cal-or-identity-requires
+cal-or-identity-requires c κs = search needs
 
 check-of-requires : tie.Need-check-of-requires
 check-of-requires c κs = search needs
@@ -32,7 +32,8 @@ enum-known-check c = search needs
 returns-2 : tie.Need-returns-2
 returns-2 c =
     let k = c .before .before .before in
-    let a = k .before .before .before .before .before .args in
+    let s = k .before .before in
+    let a = s .before .before .before .args in
     let refused = sym (k .check-of .ensures) ∙ c .before .check .given .1 in
     sym (fit-refused (a .n) (a .pairs) (a .m) (a .targets) (omega arith) _ _ refused)
 
@@ -72,7 +73,7 @@ returns-3 c =
     let cal = is .s .given .0 .0 in
     let judged = sym (k .check-of .ensures) ∙ e .enum-told .given .1 in
     let first = resid-first (a .n) (a .pairs) (a .m) (a .targets) (omega arith) in
-    let same = k .before .found .ensures ∙ found-is _ cal (is .s .given .1) in
+    let same = k .before .cal-or-identity .ensures ∙ found-is _ cal (is .s .given .1) in
     let checked = ap (λ (d : Cal). checkFirst d (a .m) (a .targets)) same ∙ check-first (a .n) (a .pairs) (a .m) (a .targets) (omega arith) cal _ _ judged in
     rw (
       fit-goes-on (a .n) (a .pairs) (a .m) (a .targets) (omega arith) _ _ judged,
@@ -123,7 +124,7 @@ fit-of-spec =
     no-cal-requires
     returns
     solve-requires
-    found-requires
+    cal-or-identity-requires
     check-of-requires
     enum-known-check
     returns-2

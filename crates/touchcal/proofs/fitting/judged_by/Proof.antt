@@ -7,8 +7,11 @@ use Rattle.touchcal.proofs.fitting.judged_by.Tie as tie
 enum-told : tie.Need-enum-told
 enum-told c = search needs
 
+is-over-requires : tie.Need-is-over-requires
+is-over-requires c κs = search needs
+
 returns : tie.Need-returns
-returns c = search (follow, c .before .before .enum-told .given .1)
+returns c = search (follow, c .before .before .enum-told .given .1, ← c .before .is-over .ensures)
 
 enum-told-2 : tie.Need-enum-told-2
 enum-told-2 c = search needs
@@ -20,7 +23,7 @@ enum-told-4 : tie.Need-enum-told-4
 enum-told-4 c = search needs
 
 returns-2 : tie.Need-returns-2
-returns-2 c = search (follow, c .before .before .enum-told .given .1)
+returns-2 c = search (follow, c .before .before .enum-told .given .1, ← c .before .is-over .ensures)
 
 returns-3 : tie.Need-returns-3
 returns-3 c = search needs
@@ -36,6 +39,7 @@ judged-by-spec =
     tie.close
     (tie.spec
     enum-told
+    is-over-requires
     returns
     enum-told-2
     enum-told-3

@@ -25,10 +25,18 @@ enum-known-after-2 : tie.Need-enum-known-after-2
 enum-known-after-2 c = search needs
 
 returns : tie.Need-returns
-returns c = rw (c .before .before .before .before .before .before .before .before .after .given .1, c .before .before .before .before .before .before2 .given .1, c .before .before .check .given .1, c .fit-with .ensures)
+returns c =
+    let check = c .before .before in
+    let before = check .before .before .before in
+    let after = before .before .before .before in
+    rw (after .after .given .1, before .before2 .given .1, check .check .given .1, c .fit-with .ensures)
 
 returns-2 : tie.Need-returns-2
-returns-2 c = rw (c .before .before .before .before .before .before .before .after .given .1, c .before .before .before .before .before2 .given .1, c .before .check2 .given .1)
+returns-2 c =
+    let check = c .before in
+    let before = check .before .before .before in
+    let after = before .before .before .before in
+    rw (after .after .given .1, before .before2 .given .1, check .check2 .given .1)
 
 returns-3 : tie.Need-returns-3
 returns-3 c = rw (c .before .before .before .before .after .given .1, c .before .before3 .given .1)

@@ -25,14 +25,19 @@ out-requires-6 c κs = search needs
 
 returns : tie.Need-returns
 unfolding ofBits toF32Of
-returns c = λ i. record {
-  a = c .before .before .before .before .before .out .ensures i;
-  b = c .before .before .before .before .out2 .ensures i;
-  c = c .before .before .before .out3 .ensures i;
-  d = c .before .before .out4 .ensures i;
-  e = c .before .out5 .ensures i;
-  f = c .out6 .ensures i;
-}
+returns c =
+    let c4 = c .before in
+    let c3 = c4 .before in
+    let c2 = c3 .before in
+    let c1 = c2 .before in
+    λ i. record {
+      a = c1 .before .out .ensures i;
+      b = c1 .out2 .ensures i;
+      c = c2 .out3 .ensures i;
+      d = c3 .out4 .ensures i;
+      e = c4 .out5 .ensures i;
+      f = c .out6 .ensures i;
+    }
 
 pub to-f32-spec : {M : Type 1} → statement M
 to-f32-spec =

@@ -15,11 +15,15 @@ returns c = search (follow, ← c .before .before .before .det .ensures)
 
 returns-2 : tie.Need-returns-2
 unfolding ofBits spreads
-returns-2 c = search (follow, ← c .before .before .before .before .before .det .ensures)
+returns-2 c =
+    let x = c .before .before in
+    search (follow, ← x .before .before .before .det .ensures)
 
 returns-3 : tie.Need-returns-3
 unfolding ofBits spreads
-returns-3 c = search (follow, ← c .before .before .before .before .before .det .ensures)
+returns-3 c =
+    let x = c .before .before in
+    search (follow, ← x .before .before .before .det .ensures)
 
 returns-4 : tie.Need-returns-4
 unfolding ofBits spreads

@@ -44,22 +44,26 @@ unfolding solvedOf
 returns-2 c =
     let k = c .before in
     let i = k .before .before in
-    let m = i .before .before .before .before .before in
+    let plane = i .before .before in
+    let spread = plane .before .before in
+    let m = spread .before in
     let s = m .before .before in
     let many = first-many (s .args .n) (s .args .pairs) (omega arith) in
     let enough : fewest ≤ length (take (s .args .n) (s .args .pairs)) = omega arith in
-    search (follow, ← m .moments-of .ensures, ← i .before .before .before .before .is-spread .ensures, ← i .before .before .plane .ensures, ← i .before .deltas .ensures, ← i .in-steps .ensures, k .c .given .1)
+    search (follow, ← m .moments-of .ensures, ← spread .is-spread .ensures, ← plane .plane .ensures, ← i .before .deltas .ensures, ← i .in-steps .ensures, k .c .given .1)
 
 returns-3 : tie.Need-returns-3
 unfolding solvedOf
 returns-3 c =
     let k = c .before in
     let i = k .before .before in
-    let m = i .before .before .before .before .before in
+    let plane = i .before .before in
+    let spread = plane .before .before in
+    let m = spread .before in
     let s = m .before .before in
     let many = first-many (s .args .n) (s .args .pairs) (omega arith) in
     let enough : fewest ≤ length (take (s .args .n) (s .args .pairs)) = omega arith in
-    search (follow, ← m .moments-of .ensures, ← i .before .before .before .before .is-spread .ensures, ← i .before .before .plane .ensures, ← i .before .deltas .ensures, ← i .in-steps .ensures, k .p .given .1)
+    search (follow, ← m .moments-of .ensures, ← spread .is-spread .ensures, ← plane .plane .ensures, ← i .before .deltas .ensures, ← i .in-steps .ensures, k .p .given .1)
 
 returns-4 : tie.Need-returns-4
 unfolding solvedOf
