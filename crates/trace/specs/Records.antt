@@ -13,12 +13,13 @@ use Rattle.panel.specs.declared.points.Event.{Event}
 use Rattle.panel.specs.declared.points.Point.{Point}
 use Rattle.panel.specs.declared.refusals.Refusal.{Refusal}
 use Rattle.panel.specs.declared.refusals.Refusal.the-variants.{Kind}
-use Rattle.trace.specs.Numbers.{numberFrom}
-use Rattle.trace.specs.Sizes.{most64, most16, most8, most1, kindReport, kindTick, kindCapture, kindDirect, kindRaw, kindGrab}
-use Rattle.trace.specs.declared.numbers.Cursor.{Cursor}
-use Rattle.trace.specs.declared.numbers.Cursor.the-variants.{At, Stop}
-use Rattle.trace.specs.declared.records.CallKind.{CallKind}
-use Rattle.trace.specs.declared.records.CallKind.the-variants.{Report, Tick, Capture, CaptureDirect, RawNext, SetGrabMs}
+use Rattle.numbers.specs.Numbers.{numberFrom}
+use Rattle.numbers.specs.Sizes.{most64}
+use Rattle.trace.specs.Sizes.{most16, most8, most1, kindReport, kindTick, kindCapture, kindDirect, kindRaw, kindGrab}
+use Rattle.numbers.specs.declared.reading.Cursor.{Cursor}
+use Rattle.numbers.specs.declared.reading.Cursor.the-variants.{At, Stop}
+use Rattle.gesture.specs.declared.making.CallKind.{CallKind}
+use Rattle.gesture.specs.declared.making.CallKind.the-variants.{Report, Tick, Capture, CaptureDirect, RawNext, SetGrabMs}
 use Rattle.trace.specs.declared.records.ReadAnswer.{ReadAnswer}
 use Rattle.trace.specs.declared.records.Taken.the-variants.{Call, Refused}
 
@@ -33,11 +34,11 @@ abbrev pub noEvent : Event
 noEvent = record { points = 0; p = nowhere; pts = noPoints; keys = 0 }
 
 -- so many points in a row, and where they end
-pub record Spots : Type 0 where
+pub record PointRow : Type 0 where
   pub points : List Point
   pub to : Cursor
 
-unfoldable pub pointsFrom : List ℕ → Cursor → ℕ → Spots
+unfoldable pub pointsFrom : List ℕ → Cursor → ℕ → PointRow
 pointsFrom bytes c zero = record { points = []; to = c }
 pointsFrom bytes c (suc n) =
     let x = numberFrom bytes c most16 in
