@@ -34,6 +34,7 @@ use Rattle.trace.specs.declared.records.Taken.{Taken}
 use Rattle.trace.specs.declared.records.Taken.the-variants as Taken
 use Rattle.numbers.proofs.Bytes.{by-lt}
 use Rattle.numbers.proofs.Grouping.{number-most}
+use Rattle.trace.proofs.Unknown.{by-eq}
 use Rattle.trace.proofs.RoundTrip.{one-finger, most-fingers, record-some}
 use Rattle.numbers.proofs.Taken.{Octets, Spans, spans-none, spans-join, number-took}
 
@@ -106,13 +107,6 @@ whole-took (Stop why a) kind kind′ e e′ next q =
     let f : Taken.Refused why a ≡ Taken.Call kind′ next = ap (λ (r : ReadAnswer). r .taken) q in
     let z : _≡_ {A = ℕ} 0 1 = cc in
     absurd (omega arith)
-
-by-eq : {P : Type 0} (a b : ℕ) → (a ≡ b → P) → ((a ≡ b → ⊥) → P) → P
-by-eq {P} a b f g = go (eqb a b) refl
-  where
-    go : (t : Bool) → eqb a b ≡ t → P
-    go true e = f (eqb-true a b e)
-    go false e = g (eqb-false a b e)
 
 -- A report from its parts.
 report-normal : (time keys count : ℕ) (ps : List Point) → pointsInUse (eventOf keys count ps) ≡ ps → time ≤ most64 → keys ≤ most8 → count ≤ most8 → Small ps → Normal (report time (eventOf keys count ps))

@@ -4,5 +4,6 @@ pub mod RoundTrip
 pub mod Again
 pub mod Promises
 pub mod Cases
+mod Unknown
 mod PointsIn
 mod Gathered
