@@ -48,6 +48,9 @@ module _ (room : List ℕ) (at : ℕ) (bytes : List ℕ) where
 pub number-unique : (bytes : List ℕ) (c : Cursor) (most : ℕ) {r s : Value} → r ≡ numberFrom bytes c most → s ≡ numberFrom bytes c most → r ≡ s
 number-unique bytes c most = one-answer
 
+pub wide-unique : (x : ℕ) {r s : ℕ} → r ≡ x → s ≡ x → r ≡ s
+wide-unique x = one-answer
+
 pub length-unique : (v : ℕ) {r s : ℕ} → r ≡ length (bytesOf v) → s ≡ length (bytesOf v) → r ≡ s
 length-unique v = one-answer
 

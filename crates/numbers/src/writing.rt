@@ -102,11 +102,11 @@ pub fn put_numbers(out: &mut [u8], at: usize, v: &[u64]) -> WriteAnswer
     ensures { λ r. ⌜ r ≡ wroteOf (now (out .entry)) at (bytesOfAll (now (v .entry))) ⌝ }
     ensures { λ r. ⌜ now (out .exit) ≡ writtenOf (now (out .entry)) at (bytesOfAll (now (v .entry))) ⌝ }
 {
-    let n = total(v);
+    let t = total(v);
     if out.len() < at {
         return WriteAnswer::Refused(Refusal::Room);
     }
-    if out.len() - at < n {
+    if out.len() - at < t {
         return WriteAnswer::Refused(Refusal::Room);
     }
     let to = put_all(out, at, v);

@@ -81,7 +81,10 @@ groups-returns-3 : (t : ℕ) → groups-lts.Need-returns-3 (
   with-group-reads.Asked,
   with-group-reads.Learnt,
 ) (groups-at t) groups.Post
-groups-returns-3 t c = rw (c .wide8 .ensures) (sym (last-group _ _ _ (c .before .before .before .before .if1 .left) (c .before .before .before .if2 .left) (c .before .if3 .taken)))
+groups-returns-3 t c =
+    let last = c .before in
+    let within = last .before .before in
+    rw (c .wide8 .ensures) (sym (last-group _ _ _ (within .before .if1 .left) (within .if2 .left) (last .if3 .taken)))
 
 groups-add-groups : (t : ℕ) → groups-lts.Need-add-groups (
   wide8-reads.Asked,
@@ -111,7 +114,10 @@ groups-groups-requires : (t : ℕ) → groups-lts.Need-groups-requires (
   with-group-reads.Asked,
   with-group-reads.Learnt,
 ) (groups-at t) groups.Post
-groups-groups-requires t c κs = (omega (arith, c .before .before .before .before .before .pre .0), tt)
+groups-groups-requires t c κs =
+    let within = c .before .before in
+    let s = within .before .before .before in
+    (omega (arith, s .pre .0), tt)
 
 groups-with-group-requires : (t : ℕ) → groups-lts.Need-with-group-requires (
   wide8-reads.Asked,
@@ -132,10 +138,14 @@ groups-returns-4 : (t : ℕ) → groups-lts.Need-returns-4 (
   with-group-reads.Learnt,
 ) (groups-at t) groups.Post
 groups-returns-4 t c =
-    let a = c .before .before .before .before .before .before .before .args in
+    let rest = c .before in
+    let more = rest .before in
+    let within = more .before .before in
+    let some = within .before in
+    let a = some .before .before .args in
     c .with-group .ensures
-    ∙ ap (withGroup _) (c .before .groups .ensures)
-    ∙ sym (more-groups (a .s .now) (a .at) (a .left) (c .before .before .before .before .before .if1 .left) (c .before .before .before .before .if2 .left) (c .before .before .if3 .left))
+    ∙ ap (withGroup _) (rest .groups .ensures)
+    ∙ sym (more-groups (a .s .now) (a .at) (a .left) (some .if1 .left) (within .if2 .left) (more .if3 .left))
 
 pub +groups-spec : {M : Type 1} → statement M
 +groups-spec = close μ-groups λ t. groups-lts.spec (

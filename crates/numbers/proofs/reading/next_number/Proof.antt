@@ -25,15 +25,17 @@ stop-requires c κs = search needs
 returns : tie.Need-returns
 unfolding numberFrom
 returns c =
-    let a = c .before .before .before .before .before .args in
-    let e : c .number-at .result ≡ numberFrom (now (a .s)) (a .c) (a .most) = search (follow, ← c .number-at .ensures, c .before .before .c .given .1) in
+    let known = c .before .before in
+    let a = known .before .before .before .args in
+    let e : c .number-at .result ≡ numberFrom (now (a .s)) (a .c) (a .most) = search (follow, ← c .number-at .ensures, known .c .given .1) in
     (e, subst (λ (r : Value). r .v ≤ a .most) (sym e) (number-most _ (a .c) (a .most)))
 
 returns-2 : tie.Need-returns-2
 unfolding numberFrom
 returns-2 c =
-    let a = c .before .before .before .before .before .args in
-    let e : c .stop .result ≡ numberFrom (now (a .s)) (a .c) (a .most) = search (follow, ← c .stop .ensures, c .before .before .c2 .given .1) in
+    let known = c .before .before in
+    let a = known .before .before .before .args in
+    let e : c .stop .result ≡ numberFrom (now (a .s)) (a .c) (a .most) = search (follow, ← c .stop .ensures, known .c2 .given .1) in
     (e, subst (λ (r : Value). r .v ≤ a .most) (sym e) (number-most _ (a .c) (a .most)))
 
 pub next-number-spec : {M : Type 1} → statement M

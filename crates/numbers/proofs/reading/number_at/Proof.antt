@@ -31,9 +31,12 @@ judge-requires c κs = search needs
 -- one group is all of it
 returns-2 : tie.Need-returns-2
 returns-2 c =
-    let a = c .before .before .before .before .before .before .args in
-    let here = c .before .before .before .before .if1 .left in
-    let whole = ap (λ (v : ℕ). Whole v (a .at + 1)) (c .before .wide8 .ensures) ∙ sym (last-group _ (a .at) mostGroups (λ e. omega (arith, e)) here (c .before .before .if2 .taken)) in
+    let w = c .before in
+    let one = w .before in
+    let within = one .before .before in
+    let a = within .before .before .args in
+    let here = within .if1 .left in
+    let whole = ap (λ (v : ℕ). Whole v (a .at + 1)) (w .wide8 .ensures) ∙ sym (last-group _ (a .at) mostGroups (λ e. omega (arith, e)) here (one .if2 .taken)) in
     c .judge .ensures ∙ ap (judgedAs (a .at) (a .most)) whole ∙ number-here _ _ _ here (omega arith)
 
 groups-requires : tie.Need-groups-requires
@@ -44,8 +47,10 @@ judge-requires-2 c κs = search needs
 
 returns-3 : tie.Need-returns-3
 returns-3 c =
-    let a = c .before .before .before .before .before .before .args in
-    c .judge2 .ensures ∙ ap (judgedAs (a .at) (a .most)) (c .before .groups .ensures) ∙ number-here _ _ _ (c .before .before .before .before .if1 .left) (omega arith)
+    let g = c .before in
+    let within = g .before .before .before in
+    let a = within .before .before .args in
+    c .judge2 .ensures ∙ ap (judgedAs (a .at) (a .most)) (g .groups .ensures) ∙ number-here _ _ _ (within .if1 .left) (omega arith)
 
 pub number-at-spec : {M : Type 1} → statement M
 number-at-spec =

@@ -24,23 +24,34 @@ abbrev put-below : ℕ → In 1 put-kinds.ps
 put-below t = and 1 put-kinds.ps (falls 1 put-kinds.ps _<_ μ-put t) put.Pre
 
 put-returns : (t : ℕ) → put-lts.Need-returns (put-below t, put.Post) (put-at t) put.Post
-put-returns t c = put-none (c .before .before .args .out .now) (c .before .before .args .at) (c .before .before .args .left) (c .before .before .args .v) (c .if1 .taken)
+put-returns t c =
+    let a = c .before .before .args in
+    put-none (a .out .now) (a .at) (a .left) (a .v) (c .if1 .taken)
 
 put-cast-out : (t : ℕ) → put-lts.Need-cast-out (put-below t, put.Post) (put-at t) put.Post
 put-cast-out t c = omega arith
 
 put-slice-write-out :
     (t : ℕ) → put-lts.Need-slice-write-out (put-below t, put.Post) (put-at t) put.Post
-put-slice-write-out t c = omega (arith, c .before .before .before .pre .1, groups-some (c .before .before .before .args .left) (c .before .before .before .args .v) (c .before .if1 .left))
+put-slice-write-out t c =
+    let some = c .before in
+    let s = some .before .before in
+    omega (arith, s .pre .1, groups-some (s .args .left) (s .args .v) (some .if1 .left))
 
 put-add-result : (t : ℕ) → put-lts.Need-add-result (put-below t, put.Post) (put-at t) put.Post
-put-add-result t c = omega (arith, c .before .before .before .pre .1, groups-some (c .before .before .before .args .left) (c .before .before .before .args .v) (c .before .if1 .left))
+put-add-result t c =
+    let some = c .before in
+    let s = some .before .before in
+    omega (arith, s .pre .1, groups-some (s .args .left) (s .args .v) (some .if1 .left))
 
 put-same-length : (t : ℕ) → put-lts.Need-same-length (put-below t, put.Post) (put-at t) put.Post
 put-same-length t c = simp length-set
 
 put-returns-2 : (t : ℕ) → put-lts.Need-returns-2 (put-below t, put.Post) (put-at t) put.Post
-put-returns-2 t c = put-last (c .before .before .before .args .out .now) (c .before .before .before .args .at) (c .before .before .before .args .left) (c .before .before .before .args .v) (c .before .if1 .left) (c .if2 .taken)
+put-returns-2 t c =
+    let some = c .before in
+    let a = some .before .before .args in
+    put-last (a .out .now) (a .at) (a .left) (a .v) (some .if1 .left) (c .if2 .taken)
 
 put-add-out : (t : ℕ) → put-lts.Need-add-out (put-below t, put.Post) (put-at t) put.Post
 put-add-out t c = omega (arith, mod-lt (c .before .before .before .args .v) {m = 128} (lit< tt))
@@ -50,23 +61,38 @@ put-cast-out-2 t c = omega (arith, mod-lt (c .before .before .before .args .v) {
 
 put-slice-write-out-2 :
     (t : ℕ) → put-lts.Need-slice-write-out-2 (put-below t, put.Post) (put-at t) put.Post
-put-slice-write-out-2 t c = omega (arith, c .before .before .before .pre .1, groups-some (c .before .before .before .args .left) (c .before .before .before .args .v) (c .before .if1 .left))
+put-slice-write-out-2 t c =
+    let some = c .before in
+    let s = some .before .before in
+    omega (arith, s .pre .1, groups-some (s .args .left) (s .args .v) (some .if1 .left))
 
 put-add-put : (t : ℕ) → put-lts.Need-add-put (put-below t, put.Post) (put-at t) put.Post
-put-add-put t c = omega (arith, c .before .before .before .before .pre .1, groups-some (c .before .before .before .before .args .left) (c .before .before .before .before .args .v) (c .before .before .if1 .left))
+put-add-put t c =
+    let some = c .before .before in
+    let s = some .before .before in
+    omega (arith, s .pre .1, groups-some (s .args .left) (s .args .v) (some .if1 .left))
 
 put-sub-put : (t : ℕ) → put-lts.Need-sub-put (put-below t, put.Post) (put-at t) put.Post
 put-sub-put t c = omega arith
 
 put-put-requires : (t : ℕ) → put-lts.Need-put-requires (put-below t, put.Post) (put-at t) put.Post
-put-put-requires t c κs = (omega (arith, c .before .before .before .before .pre .0), simp length-set (omega (arith, c .before .before .before .before .pre .1, ap length (groups-more (c .before .before .before .before .args .left) (c .before .before .before .before .args .v) (c .before .before .if1 .left) (c .before .if2 .left)))))
+put-put-requires t c κs =
+    let large = c .before in
+    let some = large .before in
+    let s = some .before .before in
+    (omega (arith, s .pre .0), simp length-set (omega (arith, s .pre .1, ap length (groups-more (s .args .left) (s .args .v) (some .if1 .left) (large .if2 .left)))))
 
 put-same-length-2 :
     (t : ℕ) → put-lts.Need-same-length-2 (put-below t, put.Post) (put-at t) put.Post
 put-same-length-2 t c = c .before .before .put .kept .0 ∙ simp length-set
 
 put-returns-3 : (t : ℕ) → put-lts.Need-returns-3 (put-below t, put.Post) (put-at t) put.Post
-put-returns-3 t c = put-more (c .before .before .before .before .before .before .before .args .out .now) (c .before .before .before .before .before .before .before .args .at) (c .before .before .before .before .before .before .before .args .left) (c .before .before .before .before .before .before .before .args .v) _ _ (c .before .before .before .before .before .if1 .left) (c .before .before .before .before .if2 .left) (c .before .before .put .ensures)
+put-returns-3 t c =
+    let p = c .before .before in
+    let large = p .before .before in
+    let some = large .before in
+    let a = some .before .before .args in
+    put-more (a .out .now) (a .at) (a .left) (a .v) _ _ (some .if1 .left) (large .if2 .left) (p .put .ensures)
 
 pub +put-spec : {M : Type 1} → statement M
 +put-spec =

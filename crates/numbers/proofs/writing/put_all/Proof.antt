@@ -24,7 +24,10 @@ loop-holds c =
     (omega arith, omega (arith, ap length e), ap (sets (a .out .now) (a .at)) (sym e))
 
 mul-put : tie.Need-mul-put Inv-loop μ-loop
-mul-put c = let h : c .before .before .loop .i < length (c .before .before .before .before .before .args .v .now) = omega arith in search needs
+mul-put c =
+    let l = c .before .before in
+    let h : l .loop .i < length (l .before .before .before .args .v .now) = omega arith in
+    search needs
 
 shared-slice-read-put : tie.Need-shared-slice-read-put Inv-loop μ-loop
 shared-slice-read-put c = omega arith

@@ -53,14 +53,16 @@ make-requires c κs = search needs
 
 add-answer-line : tie.Need-add-answer-line Inv-loop μ-loop
 add-answer-line c =
-    let r = c .before .before .before .before .before .before in
+    let w = c .before .before .before in
+    let r = w .before .before .before in
     let l = r .before .before .before in
     let s = l .before .before .before .before in
     omega (arith, l .loop .inv .count, s .pre .0)
 
 answer-line-requires : tie.Need-answer-line-requires Inv-loop μ-loop
 answer-line-requires c κs =
-    let r = c .before .before .before .before .before .before in
+    let w = c .before .before .before in
+    let r = w .before .before .before in
     let l = r .before .before .before in
     let s = l .before .before .before .before in
     (omega (arith, l .loop .inv .count, s .pre .0), omega (arith, l .loop .inv .room))
@@ -70,14 +72,16 @@ enum-known-taken-2 c = search needs
 
 stop-line-requires : tie.Need-stop-line-requires Inv-loop μ-loop
 stop-line-requires c κs =
-    let r = c .before .before .before .before .before in
+    let w = c .before .before in
+    let r = w .before .before .before in
     let l = r .before .before .before in
     omega (arith, l .loop .inv .room)
 
 same-length-2 : tie.Need-same-length-2 Inv-loop μ-loop
 same-length-2 c =
     let e = c .before .before in
-    let r = e .before .before .before .before .before .before in
+    let w = e .before .before .before in
+    let r = w .before .before .before in
     let l = r .before .before .before in
     e .stop-line .kept .0 ∙ l .loop .inv .long
 
@@ -91,8 +95,9 @@ returns-2 c =
 
 add-i : tie.Need-add-i Inv-loop μ-loop
 add-i c =
-    let m = c .before .before .before .before .before in
-    let r = m .before .before .before .before .before in
+    let e = c .before .before .before in
+    let w = e .before .before .before .before in
+    let r = w .before .before .before in
     let l = r .before .before .before in
     let s = l .before .before .before .before in
     omega (arith, l .loop .inv .count, s .pre .0)

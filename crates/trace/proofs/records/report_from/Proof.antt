@@ -33,8 +33,14 @@ close-requires c κs = search needs
 
 returns : tie.Need-returns
 returns c =
-    let ps = c .before .before .before .before .points-from .ensures in
-    report-is _ _ _ _ _ _ _ _ _ _ (c .before .before .before .before .before .before .before .before .before .next-number .ensures .0) (c .before .before .before .before .before .before .before .before .next-number2 .ensures .0) (c .before .before .before .before .before .before .before .next-number3 .ensures .0) (c .before .before .before .before .before .fingers-of .ensures .0) (ps .0) (ps .1) (c .before .event-with .ensures) (c .close .ensures)
+    let event = c .before in
+    let points = event .before .before .before in
+    let used = points .before in
+    let count = used .before .before in
+    let keys = count .before in
+    let time = keys .before in
+    let ps = points .points-from .ensures in
+    report-is _ _ _ _ _ _ _ _ _ _ (time .next-number .ensures .0) (keys .next-number2 .ensures .0) (count .next-number3 .ensures .0) (used .fingers-of .ensures .0) (ps .0) (ps .1) (event .event-with .ensures) (c .close .ensures)
 
 pub report-from-spec : {M : Type 1} → statement M
 report-from-spec =

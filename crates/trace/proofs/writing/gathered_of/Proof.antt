@@ -4,6 +4,7 @@ use mathlib.Core.Path.{sym, ap, _∙_}
 use mathlib.Core.List.{[], _∷_}
 use borrow.Author.Needs.{needs}
 use Rattle.trace.specs.Calls.{numbersOf}
+use Rattle.trace.specs.Sizes.{kindRaw, kindGrab}
 use Rattle.gesture.specs.Calls.{callBy}
 use Rattle.gesture.specs.declared.making.CallKind.{CallKind}
 use Rattle.trace.proofs.writing.gathered_of.Statement.{statement}
@@ -77,14 +78,18 @@ returns-4 c =
 returns-5 : tie.Need-returns-5
 unfolding numbersOf
 returns-5 c =
-    let s = c .before .before .before .before .before in
-    (c .short4 .ensures .0 ∙ ap (λ (x : ℕ). 5 ∷ x ∷ []) (c .before .flag .ensures) ∙ sym (ap (λ (k : CallKind). numbersOf (callBy k (s .args .event))) (c .before .before .before .kind3 .given .1)), c .short4 .ensures .1)
+    let f = c .before in
+    let raw = f .before .before in
+    let s = raw .before .before in
+    (c .short4 .ensures .0 ∙ ap (λ (x : ℕ). kindRaw ∷ x ∷ []) (f .flag .ensures) ∙ sym (ap (λ (k : CallKind). numbersOf (callBy k (s .args .event))) (raw .kind3 .given .1)), c .short4 .ensures .1)
 
 returns-6 : tie.Need-returns-6
 unfolding numbersOf
 returns-6 c =
-    let s = c .before .before .before .before .before in
-    (c .short5 .ensures .0 ∙ ap (λ (x : ℕ). 6 ∷ x ∷ []) (c .before .wide16 .ensures) ∙ sym (ap (λ (k : CallKind). numbersOf (callBy k (s .args .event))) (c .before .before .before .kind4 .given .1)), c .short5 .ensures .1)
+    let w = c .before in
+    let grab = w .before .before in
+    let s = grab .before .before in
+    (c .short5 .ensures .0 ∙ ap (λ (x : ℕ). kindGrab ∷ x ∷ []) (w .wide16 .ensures) ∙ sym (ap (λ (k : CallKind). numbersOf (callBy k (s .args .event))) (grab .kind4 .given .1)), c .short5 .ensures .1)
 
 pub gathered-of-spec : {M : Type 1} → statement M
 gathered-of-spec =
