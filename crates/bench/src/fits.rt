@@ -1,8 +1,8 @@
 // The row of the fit: nine taps, their targets and nine check points, the first tap moved by a pixel from call to call.
 use crate::fold;
-use crate::numbers;
-use crate::numbers::Numbers;
-use crate::numbers::PLACES;
+use crate::values;
+use crate::values::Numbers;
+use crate::values::PLACES;
 use calmap::Aim;
 use calmap::MAX_TAPS;
 use calmap::Tap;
@@ -14,15 +14,15 @@ const TAPS: usize = 9;
 
 fn tap(x: u64, y: u64) -> Tap {
     Tap {
-        x: numbers::signed16(x),
-        y: numbers::signed16(y),
+        x: values::signed16(x),
+        y: values::signed16(y),
     }
 }
 
 fn point(x: u64, y: u64) -> Point {
     Point {
-        x: numbers::low16(x),
-        y: numbers::low16(y),
+        x: values::low16(x),
+        y: values::low16(y),
     }
 }
 

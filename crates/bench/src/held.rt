@@ -1,10 +1,10 @@
 // The calls on a tracker that a row makes again and again, read once.
 ghost use Prim.Native.Nat.{_<_};
+use gesture::CallKind;
+use numbers::Cursor;
 use panel::Event;
 use panel::MAX_POINTS;
 use panel::Point;
-use trace::CallKind;
-use trace::Cursor;
 use trace::Taken;
 
 pub(crate) const PLACES: usize = 16;

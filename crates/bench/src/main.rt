@@ -4,29 +4,29 @@
 mod fits;
 mod fold;
 mod held;
-mod numbers;
 mod rows;
 mod tracker;
+mod values;
 
-use trace::Cursor;
+use numbers::Cursor;
 
 // A row by its number.
 fn row(s: &[u8], kind: u64, calls: u64, to: Cursor) -> u64 {
     match kind {
         1 => tracker::reports(held::calls_at(s, to), calls),
-        2 => rows::apply16(numbers::at(s, to), calls),
-        3 => rows::isqrt(numbers::at(s, to), calls),
-        4 => rows::q16(numbers::at(s, to), calls),
-        5 => fits::fit(numbers::at(s, to), calls),
+        2 => rows::apply16(values::at(s, to), calls),
+        3 => rows::isqrt(values::at(s, to), calls),
+        4 => rows::q16(values::at(s, to), calls),
+        5 => fits::fit(values::at(s, to), calls),
         6 => tracker::ticks(held::calls_at(s, to), calls),
         _ => 0,
     }
 }
 
 fn measured(s: &[u8]) -> u64 {
-    let kind = trace::next_number(s, Cursor::At(0), numbers::MOST);
+    let kind = numbers::next_number(s, Cursor::At(0), numbers::MOST_64);
     let a = kind.to;
-    let calls = trace::next_number(s, a, numbers::MOST);
+    let calls = numbers::next_number(s, a, numbers::MOST_64);
     let b = calls.to;
     row(s, kind.v, calls.v, b)
 }

@@ -1,8 +1,8 @@
 // The rows of the calibration: each call takes the next of the numbers that are held.
 use crate::fold;
-use crate::numbers;
-use crate::numbers::Numbers;
-use crate::numbers::PLACES;
+use crate::values;
+use crate::values::Numbers;
+use crate::values::PLACES;
 use calmap::ApplyAnswer;
 use calmap::Cal;
 use calmap::Q16;
@@ -20,7 +20,7 @@ pub(crate) fn isqrt(h: Numbers, calls: u64) -> u64 {
     let mut k = 0;
     let mut i = 0u64;
     while i < calls {
-        let j = numbers::slot(k);
+        let j = values::slot(k);
         sum = fold::with(sum, calmap::isqrt(v[j]));
         k = after(k, 1, h.n, 0);
         i += 1;
@@ -30,7 +30,7 @@ pub(crate) fn isqrt(h: Numbers, calls: u64) -> u64 {
 
 // Thousandths, as a float.
 fn float(v: u64) -> f32 {
-    std::num::nearest_i32_to_f32(numbers::signed32(v)) / 1000.0
+    std::num::nearest_i32_to_f32(values::signed32(v)) / 1000.0
 }
 
 fn floats(v: [u64; PLACES]) -> [f32; PLACES] {
@@ -57,7 +57,7 @@ pub(crate) fn q16(h: Numbers, calls: u64) -> u64 {
     let mut k = 0;
     let mut i = 0u64;
     while i < calls {
-        let j = numbers::slot(k);
+        let j = values::slot(k);
         sum = fold::with(sum, stepped(touchcal::q16(v[j])));
         k = after(k, 1, h.n, 0);
         i += 1;
@@ -67,12 +67,12 @@ pub(crate) fn q16(h: Numbers, calls: u64) -> u64 {
 
 fn cal(v: [u64; PLACES]) -> Cal {
     Cal {
-        c0: Q16(numbers::signed32(v[0])),
-        c1: Q16(numbers::signed32(v[1])),
-        c2: Q16(numbers::signed32(v[2])),
-        c3: Q16(numbers::signed32(v[3])),
-        c4: Q16(numbers::signed32(v[4])),
-        c5: Q16(numbers::signed32(v[5])),
+        c0: Q16(values::signed32(v[0])),
+        c1: Q16(values::signed32(v[1])),
+        c2: Q16(values::signed32(v[2])),
+        c3: Q16(values::signed32(v[3])),
+        c4: Q16(values::signed32(v[4])),
+        c5: Q16(values::signed32(v[5])),
     }
 }
 
@@ -80,7 +80,7 @@ fn signs(v: [u64; PLACES]) -> [i32; PLACES] {
     let mut r = [0i32; PLACES];
     let mut i = 0;
     while i < PLACES {
-        r[i] = numbers::signed32(v[i]);
+        r[i] = values::signed32(v[i]);
         i += 1;
     }
     r
@@ -106,8 +106,8 @@ pub(crate) fn apply16(h: Numbers, calls: u64) -> u64 {
     let mut k = 6;
     let mut i = 0u64;
     while i < calls {
-        let x = v[numbers::slot(k)];
-        let y = v[numbers::slot(std::num::wrapping_add_usize(k, 1))];
+        let x = v[values::slot(k)];
+        let y = v[values::slot(std::num::wrapping_add_usize(k, 1))];
         sum = fold::with(sum, applied(calmap::apply16(c, x, y)));
         k = after(k, 2, h.n, 6);
         i += 1;

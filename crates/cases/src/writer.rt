@@ -1,18 +1,22 @@
 // The trace's writer at the end of its room: a tick at 300 takes three bytes. Each line has the room's bytes after
 // the call, all 7 before it.
 use crate::print;
+use gesture::Call;
+use gesture::CallKind;
+use numbers::WriteAnswer;
 use panel::Event;
 use panel::MAX_POINTS;
 use panel::Point;
-use trace::CallKind;
-use trace::WriteAnswer;
 
-fn no_event() -> Event {
-    Event {
-        points: 0,
-        p: Point { x: 0, y: 0 },
-        pts: [Point { x: 0, y: 0 }; MAX_POINTS],
-        keys: 0,
+fn tick() -> Call {
+    Call {
+        kind: CallKind::Tick(300),
+        event: Event {
+            points: 0,
+            p: Point { x: 0, y: 0 },
+            pts: [Point { x: 0, y: 0 }; MAX_POINTS],
+            keys: 0,
+        },
     }
 }
 
@@ -27,7 +31,7 @@ fn answer(a: WriteAnswer) {
 
 fn short() {
     let mut room = [7u8; 2];
-    let a = trace::put_record(&mut room, 0, CallKind::Tick(300), no_event());
+    let a = trace::put_record(&mut room, 0, tick());
     print::word(b"put_record tick 300, 2 bytes");
     answer(a);
     print::byte(room[0]);
@@ -37,7 +41,7 @@ fn short() {
 
 fn ample() {
     let mut room = [7u8; 4];
-    let a = trace::put_record(&mut room, 0, CallKind::Tick(300), no_event());
+    let a = trace::put_record(&mut room, 0, tick());
     print::word(b"put_record tick 300, 4 bytes");
     answer(a);
     print::byte(room[0]);

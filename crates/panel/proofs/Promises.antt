@@ -9,7 +9,7 @@ use native.Mathlib.Omega.{arith}
 use Rattle.panel.specs.Axes.{axisOf, lockOf, toldLock}
 use Rattle.panel.specs.Centroids.{middle, centroidOf, toldCentroid}
 use Rattle.panel.specs.Distances.{difference, distance, distance2, distOf, dist2Of, toldDist}
-use Rattle.panel.specs.Points.{onPanel, allOnPanel, firstPoints}
+use Rattle.panel.specs.Points.{onPanel, allOnPanel, fingers, firstPoints}
 use Rattle.panel.specs.Refusals.{numberOf, Told}
 use Rattle.panel.specs.Sizes.{lockWide}
 use Rattle.panel.specs.Tests.{if_then_else_, _and_, _≤?_}
@@ -79,6 +79,9 @@ number-unique why = one-answer
 
 pub on-panel-unique : (p : Point) {r s : Bool} → r ≡ onPanel p → s ≡ onPanel p → r ≡ s
 on-panel-unique p = one-answer
+
+pub fingers-unique : (count : ℕ) {r s : ℕ} → r ≡ fingers count → s ≡ fingers count → r ≡ s
+fingers-unique count = one-answer
 
 pub gap-unique : (a b : ℕ) {r s : ℕ} → r ≡ difference a b → s ≡ difference a b → r ≡ s
 gap-unique a b = one-answer

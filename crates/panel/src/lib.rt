@@ -32,6 +32,7 @@ pub use points::MAX_POINTS;
 pub use points::Point;
 pub use points::WIDTH;
 pub use points::all_on_panel;
+pub use points::fingers_of;
 pub use points::on_panel;
 pub use refusals::Refusal;
 pub use refusals::number;

@@ -37,7 +37,7 @@ pub fn on_panel(p: Point) -> bool
 }
 
 // How many points a count takes into use: a count over five means five.
-pub(crate) fn fingers_of(count: u8) -> usize
+pub fn fingers_of(count: u8) -> usize
     ensures { λ r. ⌜ (r ≡ fingers count) × (r ≤ maxPoints) ⌝ }
 {
     let n = count as usize;

@@ -3,7 +3,7 @@ ghost use Prim.Native.Nat.{_<_};
 use crate::args;
 use crate::args::NUMBERS;
 use image::DecodeAnswer;
-use trace::Cursor;
+use numbers::Cursor;
 
 // What is kept of an area: more than an image has, so that a longer one is refused as it would be whole.
 const KEPT: usize = 256;
@@ -46,7 +46,7 @@ fn area_at(s: &[u8], c: Cursor, n: usize) -> Area {
     let mut to = c;
     let mut i = 0;
     while i < n {
-        let b = trace::next_number(s, to, args::MOST_8);
+        let b = numbers::next_number(s, to, args::MOST_8);
         to = b.to;
         let k = slot(i);
         area[k] = args::low8(b.v);

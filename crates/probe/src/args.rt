@@ -3,21 +3,20 @@
 ghost use Prim.Native.Nat.{_<_};
 use calmap::Cal;
 use calmap::Q16;
+use numbers::Cursor;
+use numbers::MOST_64;
 use panel::Event;
 use panel::MAX_POINTS;
 use panel::Point;
 use panel::Refusal;
 use touchcal::Coefs;
-use trace::Cursor;
 
-// The largest number of each width.
+// The largest number of each width but 64 bits.
 pub(crate) const MOST_8: u64 = 255;
 
 pub(crate) const MOST_16: u64 = 65535;
 
 pub(crate) const MOST_32: u64 = 4_294_967_295;
-
-pub(crate) const MOST_64: u64 = 18_446_744_073_709_551_615;
 
 // The most numbers that a call without a list takes: those of a report.
 pub(crate) const NUMBERS: usize = 16;
@@ -76,13 +75,13 @@ fn early(i: usize) -> u64 {
 }
 
 // The numbers of a call of that kind.
-fn numbers(s: &[u8], kind: u64, c: Cursor) -> Args {
+fn numbers_of(s: &[u8], kind: u64, c: Cursor) -> Args {
     let end = until(kind);
     let mut v = [0u64; NUMBERS];
     let mut to = c;
     let mut i = first(kind);
     while i < end {
-        let x = trace::next_number(s, to, most(kind, i));
+        let x = numbers::next_number(s, to, most(kind, i));
         to = x.to;
         let k = slot(i);
         v[k] = x.v;
@@ -108,9 +107,9 @@ fn behind(place: usize, kind: u64, c: Cursor) -> Cursor {
 
 // The call that begins at `place`: its kind and its numbers.
 pub(crate) fn read(s: &[u8], place: usize) -> Args {
-    let k = trace::next_number(s, Cursor::At(place), MOST_64);
+    let k = numbers::next_number(s, Cursor::At(place), MOST_64);
     let c = k.to;
-    numbers(s, k.v, behind(place, k.v, c))
+    numbers_of(s, k.v, behind(place, k.v, c))
 }
 
 pub(crate) fn low8(v: u64) -> u8 {

@@ -1,9 +1,9 @@
 // What is printed, gathered in one buffer. A line is a row of pieces, made by value and written in one place:
 // a function that hands the buffer on is dear to prove, one that makes a piece is not. The buffer is written
 // out before it could be full (see main).
+use numbers::Cursor;
 use panel::Point;
 use panel::Refusal;
-use trace::Cursor;
 
 // The buffer's size, and how much of it one line may take: the longest is a tracker line, under 400 bytes.
 pub(crate) const ROOM: usize = 65536;

@@ -5,8 +5,8 @@ use crate::args;
 use calmap::Aim;
 use calmap::MAX_TAPS;
 use calmap::Tap;
+use numbers::Cursor;
 use panel::Point;
-use trace::Cursor;
 
 // The taps that a call can use, and a place for those that it cannot: the other list may be the shorter one.
 const PLACES: usize = 65;
@@ -37,9 +37,9 @@ struct Spot {
 }
 
 fn spot_at(s: &[u8], c: Cursor) -> Spot {
-    let x = trace::next_number(s, c, args::MOST_16);
+    let x = numbers::next_number(s, c, args::MOST_16);
     let cx = x.to;
-    let y = trace::next_number(s, cx, args::MOST_16);
+    let y = numbers::next_number(s, cx, args::MOST_16);
     let to = y.to;
     Spot { x: x.v, y: y.v, to }
 }
@@ -74,7 +74,7 @@ fn target_slot(i: usize) -> usize
 }
 
 fn taps_at(s: &[u8], c: Cursor) -> Taps {
-    let count = trace::next_number(s, c, args::MOST_8);
+    let count = numbers::next_number(s, c, args::MOST_8);
     let n = args::low8(count.v) as usize;
     let mut list = no_taps();
     let mut to = count.to;
@@ -91,7 +91,7 @@ fn taps_at(s: &[u8], c: Cursor) -> Taps {
 }
 
 pub(crate) fn targets_at(s: &[u8], c: Cursor) -> Targets {
-    let count = trace::next_number(s, c, args::MOST_8);
+    let count = numbers::next_number(s, c, args::MOST_8);
     let n = args::low8(count.v) as usize;
     let mut list = no_targets();
     let mut to = count.to;

@@ -14,9 +14,9 @@ use gesture::Tracker;
 use lines::LINE_MOST;
 use lines::ROOM;
 use lines::Reply;
+use numbers::Cursor;
 use panel::Refusal;
 use touchcal::Pending;
-use trace::Cursor;
 
 // The most bytes that a run may have, and one more, by which a longer one is known.
 const INPUT_MOST: usize = 1_048_576;

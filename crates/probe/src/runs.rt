@@ -7,7 +7,7 @@ use crate::lines::Reply;
 use crate::lists;
 use crate::tracker;
 use gesture::Answer;
-use trace::Cursor;
+use numbers::Cursor;
 
 // What such a call is answered with, and where it ends.
 pub(crate) struct Told {

@@ -13,6 +13,7 @@ use Rattle.fingers.specs.Several.{multiFrom, farDown, swipedDown, multiRule, is
 use Rattle.gesture.specs.Answers.{answered, givenBy, pointsInUse, reported, eventOf, ticked, tickOf}
 use Rattle.gesture.specs.Lines.{isLocked, isDrag, gestureLine, reportGestureLine, reportLine, tickLine}
 use Rattle.gesture.specs.Reports.{upOutcome, endStored, allUp, isLastFinger, residualTouch, newTouch, touchDown, goesOn, oneFinger, twoStart, two, several, twoOf, fingersOf, keysThenFingers, reportStep}
+use Rattle.gesture.specs.Runs.{run}
 use Rattle.gesture.specs.States.{heldPoints, centroids, spanRule, pairRule, mostRule, rawRule, stateRule}
 use Rattle.gesture.specs.Ticks.{stillDown, keysThenHold, tickStep}
 use Rattle.gesture.specs.Trackers.{freshTracker, setTouch, setKeys}
@@ -22,7 +23,7 @@ use Rattle.panel.specs.Distances.{difference, distance}
 use Rattle.panel.specs.Points.{onPanel, allOnPanel, fingers}
 use Rattle.panel.specs.Tests.{if_then_else_, _and_, _or_}
 use Rattle.text.specs.Gestures.{wordsOf}
-use Rattle.text.specs.Texts.{answersTo, givenLine, answerLine, linesFrom, endLine, lastLine, printed, textOf}
+use Rattle.text.specs.Texts.{givenLine, answerLine, linesFrom, endLine, lastLine, printed, textOf}
 use Rattle.text.specs.Words.{ascii, digitsBy, decimal, letterOf, spaced, line}
 use Rattle.trace.proofs.Cases.{document-trace}
 
@@ -34,5 +35,5 @@ bytes =
     ∷ 1 ∷ 248 ∷ 10 ∷ 0 ∷ 0 ∷ []
 
 pub document-text : textOf bytes ≡ ascii "1 Down 100 50\n3 Drag 100 50 116 50 H\n4 Cancel\n9 Down 100 50\n10 Tap 100 50\nend 10\n"
-unfolding textOf printed linesFrom answersTo givenLine answerLine endLine lastLine wordsOf ascii digitsBy decimal letterOf spaced line eventOf tickOf answered givenBy pointsInUse reported ticked upOutcome endStored allUp isLastFinger residualTouch newTouch touchDown goesOn oneFinger twoStart two several twoOf fingersOf keysThenFingers reportStep heldPoints centroids spanRule pairRule mostRule rawRule stateRule stillDown keysThenHold tickStep freshTracker setTouch setKeys reset setAxis holdOf grabDue longFrom longDue heldStill without lowest flipped keyStep trailingZeros earlyNow tracked axisAt dragAlong mayDrag moving grabOrMoving laterReport spanAlong pairAxis newPair tapOrNote isSwipe swipeOrNote releaseBy releaseOf multiFrom farDown swipedDown multiRule isPinch multiEnd axisOf total mean middle difference distance onPanel allOnPanel fingers if_then_else_ _and_ _or_ gestureLine isDrag isLocked reportGestureLine reportLine tickLine
+unfolding textOf printed linesFrom run givenLine answerLine endLine lastLine wordsOf ascii digitsBy decimal letterOf spaced line eventOf tickOf answered givenBy pointsInUse reported ticked upOutcome endStored allUp isLastFinger residualTouch newTouch touchDown goesOn oneFinger twoStart two several twoOf fingersOf keysThenFingers reportStep heldPoints centroids spanRule pairRule mostRule rawRule stateRule stillDown keysThenHold tickStep freshTracker setTouch setKeys reset setAxis holdOf grabDue longFrom longDue heldStill without lowest flipped keyStep trailingZeros earlyNow tracked axisAt dragAlong mayDrag moving grabOrMoving laterReport spanAlong pairAxis newPair tapOrNote isSwipe swipeOrNote releaseBy releaseOf multiFrom farDown swipedDown multiRule isPinch multiEnd axisOf total mean middle difference distance onPanel allOnPanel fingers if_then_else_ _and_ _or_ gestureLine isDrag isLocked reportGestureLine reportLine tickLine
 document-text = ap printed document-trace ∙ refl

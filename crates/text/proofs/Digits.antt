@@ -12,7 +12,7 @@ use borrow.Author.Tests.{lt-ltb, le-ltb, ltb-true, ltb-false}
 use Rattle.panel.proofs.Follow.{if-true, if-false}
 use Rattle.text.specs.Sizes.{smallEnd, smallDigits, mostDigits}
 use Rattle.text.specs.Words.{ten, digit0, digitsBy, decimal}
-use Rattle.text.specs.Written.{Written}
+use Rattle.text.specs.code.Written.{Written}
 use Rattle.text.proofs.Writing.{sets-more}
 
 -- a fact of two numbers, by which of them is smaller

@@ -10,7 +10,7 @@ use Rattle.panel.specs.declared.points.Point.{Point}
 use Rattle.text.specs.Gestures.{wordsOf, axisWord}
 use Rattle.text.specs.Sizes.{wordsMost}
 use Rattle.text.specs.Words.{ascii, decimal, truth, spaced}
-use Rattle.text.specs.Written.{Written}
+use Rattle.text.specs.code.Written.{Written}
 use Rattle.text.proofs.Writing.{words-then}
 
 abbrev xy : Point → List (List ℕ)

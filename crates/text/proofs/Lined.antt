@@ -15,7 +15,7 @@ use Rattle.text.specs.Gestures.{wordsOf}
 use Rattle.text.specs.Sizes.{lineMost}
 use Rattle.text.specs.Texts.{givenLine, refusedLine, answerLine, stopLine, endLine}
 use Rattle.text.specs.Words.{newline, ascii, decimal, spaced, line}
-use Rattle.text.specs.Written.{Written}
+use Rattle.text.specs.code.Written.{Written}
 use Rattle.text.proofs.Writing.{written-none, words-then, line-of}
 
 -- a line at a place, no longer than the longest

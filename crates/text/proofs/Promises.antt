@@ -12,8 +12,8 @@ use Rattle.gesture.proofs.Keeps.{fresh-kept, call-kept}
 use Rattle.gesture.proofs.Promises.{numberIn, call-tells}
 use Rattle.gesture.specs.Calls.{Call, answerOf}
 use Rattle.gesture.specs.States.{stateRule}
+use Rattle.gesture.specs.Runs.{Made, run}
 use Rattle.gesture.specs.Trackers.{freshTracker}
-use Rattle.gesture.specs.declared.answers.Answer.{Answer}
 use Rattle.gesture.specs.declared.record.Tracker.{Tracker}
 use Rattle.panel.proofs.Follow.{if-of, if-true, if-two}
 use Rattle.panel.proofs.Promises.{one-answer}
@@ -21,7 +21,7 @@ use Rattle.panel.specs.Refusals.{Told}
 use Rattle.panel.specs.Tests.{if_then_else_, _≤?_}
 use Rattle.panel.specs.declared.refusals.Refusal.the-variants.{Room}
 use Rattle.text.specs.Played.{roomFor, playedOf, leftOf, toldPlayed}
-use Rattle.text.specs.Texts.{answersTo, linesFrom, lastLine, printed, textOf}
+use Rattle.text.specs.Texts.{linesFrom, lastLine, printed, textOf}
 use Rattle.text.specs.declared.playing.Played.{Played}
 use Rattle.text.specs.declared.playing.Played.the-variants.{Wrote, Refused}
 use Rattle.trace.specs.Traces.{traceIn}
@@ -60,23 +60,23 @@ pub lent : (bytes room : List ℕ) (k : ℕ) (r : Played) (left : List ℕ) → 
 lent bytes room k r left e p = rw (p .1) (fits bytes room k (sym e ∙ p .0))
 
 -- The lines of the calls, and one last line.
-pub one-last-line : (bytes : List ℕ) → textOf bytes ≡ linesFrom 1 (answersTo freshTracker (traceIn bytes .calls)) ++ lastLine (length (traceIn bytes .calls)) (traceIn bytes .ending)
+pub one-last-line : (bytes : List ℕ) → textOf bytes ≡ linesFrom 1 (run freshTracker (traceIn bytes .calls)) ++ lastLine (length (traceIn bytes .calls)) (traceIn bytes .ending)
 unfolding textOf printed
 one-last-line bytes = refl
 
 -- "A refused report prints `i refused 2`": a report with a point in use off the panel is refused with 2, and nothing else
 -- of a trace ever is, as no run from a fresh tracker breaks the state rule.
-abbrev refusals : List Answer → List ℕ
-refusals told = map (λ a. a .refusal) told
+abbrev refusals : List Made → List ℕ
+refusals calls = map (λ m. m .answer .refusal) calls
 
-refusals-from : (t : Tracker) (cs : List Call) → stateRule t ≡ true → refusals (answersTo t cs) ≡ map numberIn cs
-unfolding answersTo
+refusals-from : (t : Tracker) (cs : List Call) → stateRule t ≡ true → refusals (run t cs) ≡ map numberIn cs
+unfolding run
 refusals-from t [] h = refl
 refusals-from t (c ∷ cs) h =
-    ap (λ (n : ℕ). n ∷ refusals (answersTo (answerOf t c .tracker) cs)) (call-tells t c h)
+    ap (λ (n : ℕ). n ∷ refusals (run (answerOf t c .tracker) cs)) (call-tells t c h)
     ∙ ap (λ (ns : List ℕ). numberIn c ∷ ns) (refusals-from (answerOf t c .tracker) cs (call-kept t c h))
 
-pub only-panel : (cs : List Call) → map (λ a. a .refusal) (answersTo freshTracker cs) ≡ map numberIn cs
+pub only-panel : (cs : List Call) → map (λ m. m .answer .refusal) (run freshTracker cs) ≡ map numberIn cs
 only-panel cs = refusals-from freshTracker cs fresh-kept
 
 -- The contract determines the answer, and the room lent.

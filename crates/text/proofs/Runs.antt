@@ -8,31 +8,32 @@ use native.Mathlib.Omega.{arith}
 use lib.ListN.{length, drop}
 use lib.Seq.{length-sets, sets-eq}
 use borrow.Author.Tests.{le-leb, lt-leb, lt-ltb}
-use Rattle.gesture.specs.Calls.{Call, answerOf}
+use Rattle.gesture.specs.Calls.{Call, answerOf, callBy}
+use Rattle.gesture.specs.Runs.{run}
 use Rattle.gesture.specs.Trackers.{freshTracker}
 use Rattle.gesture.specs.declared.answers.Answer.{Answer}
 use Rattle.gesture.specs.declared.record.Tracker.{Tracker}
+use Rattle.numbers.specs.Numbers.{toldCursor}
 use Rattle.panel.proofs.Follow.{if-true, if-false}
 use Rattle.panel.specs.Refusals.{numberOf}
-use Rattle.panel.specs.declared.points.Event.{Event}
 use Rattle.panel.specs.declared.refusals.Refusal.{Refusal}
 use Rattle.panel.specs.declared.refusals.Refusal.the-variants.{Room}
 use Rattle.text.specs.Played.{roomFor, playedOf, leftOf}
 use Rattle.text.specs.Sizes.{lineMost}
-use Rattle.text.specs.Texts.{answersTo, answerLine, linesFrom, stopLine, endLine, lastLine, printed, textOf}
-use Rattle.text.specs.Written.{Written}
+use Rattle.text.specs.Texts.{answerLine, linesFrom, stopLine, endLine, lastLine, printed, textOf}
+use Rattle.text.specs.code.Written.{Written}
 use Rattle.text.specs.declared.playing.Played.{Played}
 use Rattle.text.specs.declared.playing.Played.the-variants.{Wrote, Refused}
 use Rattle.text.proofs.Digits.{by-lt}
 use Rattle.text.proofs.Lined.{Lined}
 use Rattle.text.proofs.Writing.{written-none, written-then, written-as}
-use Rattle.trace.proofs.Promises.{toldCursor, file-tells}
+use Rattle.trace.proofs.Promises.{file-tells}
 use Rattle.trace.specs.Records.{recordAt}
 use Rattle.trace.specs.Sizes.{mostBytes}
-use Rattle.trace.specs.Traces.{ends, Traced, callOf, followed, stoppedAt, andOn, recordsFrom, headOf, traceIn}
-use Rattle.trace.specs.declared.numbers.Cursor.{Cursor}
-use Rattle.trace.specs.declared.numbers.Cursor.the-variants.{At, Stop}
-use Rattle.trace.specs.declared.records.CallKind.{CallKind}
+use Rattle.trace.specs.Traces.{ends, Traced, followed, stoppedAt, andOn, recordsFrom, headOf, traceIn}
+use Rattle.numbers.specs.declared.reading.Cursor.{Cursor}
+use Rattle.numbers.specs.declared.reading.Cursor.the-variants.{At, Stop}
+use Rattle.gesture.specs.declared.making.CallKind.{CallKind}
 use Rattle.trace.specs.declared.records.ReadAnswer.{ReadAnswer}
 use Rattle.trace.specs.declared.records.Taken.{Taken}
 use Rattle.trace.specs.declared.records.Taken.the-variants as Taken
@@ -40,7 +41,7 @@ use Rattle.trace.specs.declared.records.Taken.the-variants as Taken
 -- What a trace prints on a tracker that is i records in.
 
 unfoldable pub printedFrom : Tracker → ℕ → Traced → List ℕ
-printedFrom t i traced = linesFrom (suc i) (answersTo t (traced .calls)) ++ lastLine (i + length (traced .calls)) (traced .ending)
+printedFrom t i traced = linesFrom (suc i) (run t (traced .calls)) ++ lastLine (i + length (traced .calls)) (traced .ending)
 
 none-left : Traced
 none-left = record { calls = []; ending = ends }
@@ -49,23 +50,23 @@ from-fresh : (traced : Traced) → printedFrom freshTracker 0 traced ≡ printed
 unfolding printedFrom printed
 from-fresh traced =
     let e : 0 + length (traced .calls) ≡ length (traced .calls) = omega arith in
-    ap (λ (n : ℕ). linesFrom 1 (answersTo freshTracker (traced .calls)) ++ lastLine n (traced .ending)) e
+    ap (λ (n : ℕ). linesFrom 1 (run freshTracker (traced .calls)) ++ lastLine n (traced .ending)) e
 
 from-end : (t : Tracker) (i : ℕ) → printedFrom t i none-left ≡ endLine i
-unfolding printedFrom linesFrom answersTo lastLine none-left
+unfolding printedFrom linesFrom run lastLine none-left
 from-end t i = let e : i + 0 ≡ i = omega arith in ap endLine e
 
 from-stop : (t : Tracker) (i : ℕ) (why : Refusal) (o : ℕ) → printedFrom t i (stoppedAt why o) ≡ stopLine (numberOf why) o
-unfolding printedFrom linesFrom answersTo lastLine
+unfolding printedFrom linesFrom run lastLine
 from-stop t i why o = refl
 
 from-call : (t : Tracker) (i : ℕ) (c : Call) (traced : Traced) →
     answerLine (suc i) (answerOf t c .refusal) (answerOf t c .gesture) ++ printedFrom (answerOf t c .tracker) (suc i) traced ≡ printedFrom t i (followed c traced)
-unfolding printedFrom linesFrom answersTo
+unfolding printedFrom linesFrom run
 from-call t i c traced =
     let a : Answer = answerOf t c in
     let line : List ℕ = answerLine (suc i) (answerOf t c .refusal) (answerOf t c .gesture) in
-    let more : List ℕ = linesFrom (suc (suc i)) (answersTo (answerOf t c .tracker) (traced .calls)) in
+    let more : List ℕ = linesFrom (suc (suc i)) (run (answerOf t c .tracker) (traced .calls)) in
     let e : suc i + length (traced .calls) ≡ i + suc (length (traced .calls)) = omega arith in
     sym (append-assoc line more (lastLine (suc i + length (traced .calls)) (traced .ending)))
     ∙ ap (λ (n : ℕ). (line ++ more) ++ lastLine n (traced .ending)) e
@@ -85,7 +86,7 @@ module _ (s : List ℕ) (at : ℕ) where
   unfolding recordsFrom
   records-on k r h e = rw e (if-false _ _ _ (lt-leb (length s) at h))
 
-  records-call : (k : ℕ) (r : ReadAnswer) (kind : CallKind) (next : ℕ) → at < length s → r ≡ recordAt s at → r .taken ≡ Taken.Call kind next → recordsFrom (suc k) s at ≡ followed (callOf kind (r .event)) (recordsFrom k s next)
+  records-call : (k : ℕ) (r : ReadAnswer) (kind : CallKind) (next : ℕ) → at < length s → r ≡ recordAt s at → r .taken ≡ Taken.Call kind next → recordsFrom (suc k) s at ≡ followed (callBy kind (r .event)) (recordsFrom k s next)
   records-call k r kind next h e f = records-on k r h e ∙ ap (andOn (λ next. recordsFrom k s next) r) f
 
   records-stop : (k : ℕ) (r : ReadAnswer) (why : Refusal) (o : ℕ) → at < length s → r ≡ recordAt s at → r .taken ≡ Taken.Refused why o → recordsFrom (suc k) s at ≡ stoppedAt why o
@@ -139,12 +140,12 @@ module _ (s l₀ whole l : List ℕ) (t : Tracker) (at to i left : ℕ) (g : Goi
     going-stop why o e l′ f p =
         finish (stopLine (numberOf why) o) e l′ (ap (λ (k : ℕ). printedFrom t i (recordsFrom k s at)) one-more ∙ ap (printedFrom t i) (records-stop s at (left - 1) r why o within read f) ∙ from-stop t i why o) p
 
-    pub going-on : (kind : CallKind) (next : ℕ) (a : Answer) (e : ℕ) (l′ : List ℕ) → r .taken ≡ Taken.Call kind next → a ≡ answerOf t (callOf kind (r .event)) → Lined l to (answerLine (i + 1) (a .refusal) (a .gesture)) e l′ → Going s l₀ whole l′ (a .tracker) next e (i + 1) (left - 1)
+    pub going-on : (kind : CallKind) (next : ℕ) (a : Answer) (e : ℕ) (l′ : List ℕ) → r .taken ≡ Taken.Call kind next → a ≡ answerOf t (callBy kind (r .event)) → Lined l to (answerLine (i + 1) (a .refusal) (a .gesture)) e l′ → Going s l₀ whole l′ (a .tracker) next e (i + 1) (left - 1)
     going-on kind next a e l′ f answer p =
-        let c : Call = callOf kind (r .event) in
+        let c : Call = callBy kind (r .event) in
         let step : answerLine (suc i) (a .refusal) (a .gesture) ++ printedFrom (a .tracker) (suc i) (recordsFrom (left - 1) s next) ≡ printedFrom t i (recordsFrom left s at) =
         ap (λ (b : Answer). answerLine (suc i) (b .refusal) (b .gesture) ++ printedFrom (b .tracker) (suc i) (recordsFrom (left - 1) s next)) answer
-        ∙ from-call t i (callOf kind (r .event)) (recordsFrom (left - 1) s next)
+        ∙ from-call t i (callBy kind (r .event)) (recordsFrom (left - 1) s next)
         ∙ ap (printedFrom t i) (sym (records-call s at (left - 1) r kind next within read f))
         ∙ ap (λ (k : ℕ). printedFrom t i (recordsFrom k s at)) (sym one-more) in
         let same : length l′ ≡ length l = ap length (p .0 .left) ∙ length-sets l to (answerLine (i + 1) (a .refusal) (a .gesture)) in
@@ -168,7 +169,7 @@ unfolding textOf traceIn
 text-from s at e = rw e
 
 pub text-stopped : (s : List ℕ) (why : Refusal) (o : ℕ) → headOf s ≡ Stop why o → stopLine (numberOf why) o ≡ textOf s
-unfolding textOf traceIn printed linesFrom answersTo lastLine
+unfolding textOf traceIn printed linesFrom run lastLine
 text-stopped s why o e = rw e
 
 module _ (s l : List ℕ) where
@@ -207,7 +208,3 @@ head-short s at e = by-lt mostBytes (length s) (λ h. absurd (long h)) (λ h. h)
     long h =
         let z : _≡_ {A = ℕ} 13 0 = ap (λ t. t .number) (sym (file-tells s (lt-ltb mostBytes (length s) h)) ∙ ap toldCursor e) in
         omega arith
-
--- a call's answer, by the kind that the match found
-pub answers-as : (t : Tracker) (e : Event) (kind kind′ : CallKind) (a : Answer) → kind ≡ kind′ → a ≡ answerOf t (callOf kind′ e) → a ≡ answerOf t (callOf kind e)
-answers-as t e kind kind′ a f p = rw f p

@@ -7,7 +7,7 @@ use native.Mathlib.Numerals.{add-one}
 use lib.ListN.{length, take, getD, set, length-append}
 use lib.Seq.{sets, take-suc, take-length, length-take-le}
 use Rattle.text.specs.Words.{space, newline, spaced, line}
-use Rattle.text.specs.Written.{Written}
+use Rattle.text.specs.code.Written.{Written}
 
 sets-append : (xs l ys : List ℕ) (i : ℕ) → sets (sets l i xs) (i + length xs) ys ≡ sets l i (xs ++ ys)
 sets-append [] l ys i = let e : i + 0 ≡ i = omega arith in rw e

@@ -6,22 +6,15 @@
 use Prim.Native.Nat.{ℕ, suc}
 use mathlib.Core.List.{List, [], _∷_, _++_}
 use lib.ListN.{length}
-use Rattle.gesture.specs.Calls.{Call, answerOf}
+use Rattle.gesture.specs.Runs.{Made, run}
 use Rattle.gesture.specs.Trackers.{freshTracker}
-use Rattle.gesture.specs.declared.answers.Answer.{Answer}
 use Rattle.gesture.specs.declared.answers.Given.{Given}
 use Rattle.gesture.specs.declared.answers.Given.the-variants.{Nothing, Gave}
-use Rattle.gesture.specs.declared.record.Tracker.{Tracker}
 use Rattle.panel.specs.Refusals.{numberOf}
 use Rattle.panel.specs.Tests.{if_then_else_, _=?_}
 use Rattle.text.specs.Gestures.{wordsOf}
 use Rattle.text.specs.Words.{ascii, decimal, line}
 use Rattle.trace.specs.Traces.{Ending, ends, stops, Traced, traceIn}
-
--- what a tracker answers to calls in a row
-unfoldable pub answersTo : Tracker → List Call → List Answer
-answersTo t [] = []
-answersTo t (c ∷ cs) = answerOf t c ∷ answersTo (answerOf t c .tracker) cs
 
 -- "per answered gesture": record i's line, nothing where no gesture came of it
 unfoldable pub givenLine : ℕ → Given → List ℕ
@@ -35,10 +28,10 @@ refusedLine i number = line (decimal i) (ascii "refused" ∷ decimal number ∷ 
 unfoldable pub answerLine : ℕ → ℕ → Given → List ℕ
 answerLine i refusal given = if refusal =? 0 then givenLine i given else refusedLine i refusal
 
--- the lines of the answers, of which the first is that of record i
-unfoldable pub linesFrom : ℕ → List Answer → List ℕ
+-- the lines of the calls made, of which the first is that of record i
+unfoldable pub linesFrom : ℕ → List Made → List ℕ
 linesFrom i [] = []
-linesFrom i (a ∷ rest) = answerLine i (a .refusal) (a .gesture) ++ linesFrom (suc i) rest
+linesFrom i (m ∷ rest) = answerLine i (m .answer .refusal) (m .answer .gesture) ++ linesFrom (suc i) rest
 
 -- "a bad trace ends with `stopped R at O` ..; else `end` and the record count"
 unfoldable pub stopLine : ℕ → ℕ → List ℕ
@@ -52,7 +45,7 @@ lastLine count ends = endLine count
 lastLine count (stops why at) = stopLine (numberOf why) at
 
 unfoldable pub printed : Traced → List ℕ
-printed t = linesFrom 1 (answersTo freshTracker (t .calls)) ++ lastLine (length (t .calls)) (t .ending)
+printed t = linesFrom 1 (run freshTracker (t .calls)) ++ lastLine (length (t .calls)) (t .ending)
 
 unfoldable pub textOf : List ℕ → List ℕ
 textOf bytes = printed (traceIn bytes)

@@ -6,7 +6,7 @@ ghost use lib.ListN.{length};
 ghost use Rattle.text.specs.Gestures.{wordsOf};
 ghost use Rattle.text.specs.Sizes.{smallEnd, nameMost, pointNameMost, wordsMost};
 ghost use Rattle.text.specs.Words.{decimal, truth, spaced};
-ghost use Rattle.text.specs.Written.{Written};
+ghost use Rattle.text.specs.code.Written.{Written};
 ghost use Rattle.fingers.specs.declared.gestures.Gesture.the-variants.{Drag, Move, Pinch};
 use crate::words;
 use gesture::Gesture;

@@ -6,7 +6,7 @@ ghost use Rattle.text.specs.Gestures.{wordsOf};
 ghost use Rattle.text.specs.Sizes.{smallEnd, lineMost};
 ghost use Rattle.text.specs.Texts.{givenLine, refusedLine, answerLine, stopLine, endLine};
 ghost use Rattle.text.specs.Words.{decimal, line};
-ghost use Rattle.text.specs.Written.{Written};
+ghost use Rattle.text.specs.code.Written.{Written};
 use crate::gestures;
 use crate::words;
 use gesture::Gesture;

@@ -2,19 +2,15 @@
 ghost use mathlib.Core.Path.{_≡_};
 ghost use Prim.Native.Nat.{_≤_};
 ghost use lib.ListN.{length};
-ghost use Rattle.gesture.specs.Calls.{answerOf};
 ghost use Rattle.text.specs.Played.{roomFor, playedOf, leftOf};
 ghost use Rattle.text.specs.Texts.{printed};
-ghost use Rattle.text.specs.Written.{Written};
+ghost use Rattle.text.specs.code.Written.{Written};
 ghost use Rattle.trace.specs.Sizes.{mostBytes};
-ghost use Rattle.trace.specs.Traces.{callOf, recordsFrom};
+ghost use Rattle.trace.specs.Traces.{recordsFrom};
 use crate::lines;
-use gesture::Answer;
-use gesture::Tracker;
-use panel::Event;
+use gesture::Call;
+use numbers::Cursor;
 use panel::Refusal;
-use trace::CallKind;
-use trace::Cursor;
 use trace::Taken;
 
 // How long the text is, or that the room lent was too small.
@@ -25,20 +21,6 @@ pub enum Played {
 
 // The longest line: `65535 Drag`, four coordinates of five digits, and the axis.
 pub const LINE_MOST: usize = 37;
-
-// `event` is the report of a Report, and not looked at elsewhere.
-fn answer(t: Tracker, kind: CallKind, event: Event) -> Answer
-    ensures { λ r. ⌜ r ≡ answerOf t (callOf kind event) ⌝ }
-{
-    match kind {
-        CallKind::Report(now) => gesture::event(t, event, now),
-        CallKind::Tick(now) => gesture::tick(t, now),
-        CallKind::Capture => gesture::capture(t),
-        CallKind::CaptureDirect => gesture::capture_direct(t),
-        CallKind::RawNext(on) => gesture::raw_next(t, on),
-        CallKind::SetGrabMs(ms) => gesture::set_grab_ms(t, ms),
-    }
-}
 
 // The text of the records from a place on, at the start of the room. Each takes a byte or more, so that there
 // are no more of them than bytes.
@@ -61,7 +43,7 @@ fn records(s: &[u8], out: &mut [u8], from: usize) -> usize
         let event = r.event;
         match taken {
             Taken::Call(kind, next) => {
-                let a = answer(t, kind, event);
+                let a = gesture::make(t, Call { kind, event });
                 let given = a.gesture;
                 to = lines::answer_line(out, to, i + 1, a.refusal, given);
                 t = a.tracker;

@@ -5,7 +5,7 @@ ghost use Prim.Native.Nat.{_+_, _≤_, _<_};
 ghost use lib.ListN.{length};
 ghost use Rattle.text.specs.Sizes.{mostDigits, smallEnd, smallDigits};
 ghost use Rattle.text.specs.Words.{newline, digitsBy, decimal, letterOf, spaced};
-ghost use Rattle.text.specs.Written.{Written};
+ghost use Rattle.text.specs.code.Written.{Written};
 use panel::Axis;
 use panel::Point;
 

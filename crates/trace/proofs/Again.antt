@@ -17,24 +17,26 @@ use Rattle.panel.specs.declared.points.Point.{Point}
 use Rattle.panel.specs.declared.refusals.Refusal.{Refusal}
 use Rattle.panel.specs.declared.refusals.Refusal.the-variants.{Kind, Version, File}
 use Rattle.gesture.specs.Answers.{pointsInUse}
-use Rattle.gesture.specs.Calls.{Call, report}
-use Rattle.trace.specs.Calls.{coordinates, numbersOf, bytesOfAll, recordOf, recordsOf, traceOf}
+use Rattle.gesture.specs.Calls.{Call, report, callBy}
+use Rattle.trace.specs.Calls.{coordinates, numbersOf, recordOf, recordsOf, traceOf}
+use Rattle.numbers.specs.Numbers.{bytesOfAll, bytesOf, numberFrom}
 use Rattle.trace.specs.Normal.{Small, Normal, AllNormal}
-use Rattle.trace.specs.Numbers.{bytesOf, numberFrom}
 use Rattle.trace.specs.Records.{noPoints, noEvent, pointsFrom, firstOf, eventOf, whole, reportFrom, tickFrom, rawFrom, grabFrom, ofKind, opened, refusedAt, recordAt}
-use Rattle.trace.specs.Sizes.{most64, most16, most8, most1, mostBytes, version, kindReport, kindTick, kindCapture, kindDirect, kindRaw, kindGrab}
-use Rattle.trace.specs.Traces.{Traced, ends, stops, callOf, andOn, recordsFrom, versionOf, headOf, fromHead, traceIn}
-use Rattle.trace.specs.declared.numbers.Cursor.{Cursor}
-use Rattle.trace.specs.declared.numbers.Cursor.the-variants.{At, Stop}
-use Rattle.trace.specs.declared.records.CallKind.{CallKind}
-use Rattle.trace.specs.declared.records.CallKind.the-variants as Call′
+use Rattle.numbers.specs.Sizes.{most64}
+use Rattle.trace.specs.Sizes.{most16, most8, most1, mostBytes, version, kindReport, kindTick, kindCapture, kindDirect, kindRaw, kindGrab}
+use Rattle.trace.specs.Traces.{Traced, ends, stops, andOn, recordsFrom, versionOf, headOf, fromHead, traceIn}
+use Rattle.numbers.specs.declared.reading.Cursor.{Cursor}
+use Rattle.numbers.specs.declared.reading.Cursor.the-variants.{At, Stop}
+use Rattle.gesture.specs.declared.making.CallKind.{CallKind}
+use Rattle.gesture.specs.declared.making.CallKind.the-variants as Call′
 use Rattle.trace.specs.declared.records.ReadAnswer.{ReadAnswer}
 use Rattle.trace.specs.declared.records.Taken.{Taken}
 use Rattle.trace.specs.declared.records.Taken.the-variants as Taken
-use Rattle.trace.proofs.Bytes.{by-lt}
-use Rattle.trace.proofs.Grouping.{number-most}
+use Rattle.numbers.proofs.Bytes.{by-lt}
+use Rattle.numbers.proofs.Grouping.{number-most}
+use Rattle.trace.proofs.Unknown.{by-eq}
 use Rattle.trace.proofs.RoundTrip.{one-finger, most-fingers, record-some}
-use Rattle.trace.proofs.Taken.{Octets, Spans, spans-none, spans-join, number-took}
+use Rattle.numbers.proofs.Taken.{Octets, Spans, spans-none, spans-join, number-took}
 
 -- Points.
 all-cons : (v : ℕ) (vs : List ℕ) → bytesOfAll (v ∷ vs) ≡ bytesOf v ++ bytesOfAll vs
@@ -106,13 +108,6 @@ whole-took (Stop why a) kind kind′ e e′ next q =
     let z : _≡_ {A = ℕ} 0 1 = cc in
     absurd (omega arith)
 
-by-eq : {P : Type 0} (a b : ℕ) → (a ≡ b → P) → ((a ≡ b → ⊥) → P) → P
-by-eq {P} a b f g = go (eqb a b) refl
-  where
-    go : (t : Bool) → eqb a b ≡ t → P
-    go true e = f (eqb-true a b e)
-    go false e = g (eqb-false a b e)
-
 -- A report from its parts.
 report-normal : (time keys count : ℕ) (ps : List Point) → pointsInUse (eventOf keys count ps) ≡ ps → time ≤ most64 → keys ≤ most8 → count ≤ most8 → Small ps → Normal (report time (eventOf keys count ps))
 unfolding eventOf
@@ -135,8 +130,8 @@ report-writes s at a b c d next time keys count ps used p0 p1 p2 p3 p4 =
 record Fields (s : List ℕ) (kind : ℕ) (c : Cursor) (k : CallKind) (e : Event) (next : ℕ) : Type 0 where
   from : ℕ
   starts : c ≡ At from
-  normal : Normal (callOf k e)
-  writes : (at : ℕ) → Spans s at from (bytesOf kind) → Spans s at next (recordOf (callOf k e))
+  normal : Normal (callBy k e)
+  writes : (at : ℕ) → Spans s at from (bytesOf kind) → Spans s at next (recordOf (callBy k e))
 
 abbrev took : CallKind → Event → ℕ → ReadAnswer
 took k e next = record { taken = Taken.Call k next; event = e }
@@ -146,8 +141,8 @@ fields-same s kind c k k′ e e′ next p q f = subst (λ (x : CallKind). Fields
 
 module _ (s : List ℕ) (oc : Octets s) where
   -- a record of its kind and one number
-  one-field : (kind most v : ℕ) (c : Cursor) (k : CallKind) (next : ℕ) → numberFrom s c most .to ≡ At next → v ≡ numberFrom s c most .v → Normal (callOf k noEvent) →
-      numbersOf (callOf k noEvent) ≡ kind ∷ v ∷ [] → Fields s kind c k noEvent next
+  one-field : (kind most v : ℕ) (c : Cursor) (k : CallKind) (next : ℕ) → numberFrom s c most .to ≡ At next → v ≡ numberFrom s c most .v → Normal (callBy k noEvent) →
+      numbersOf (callBy k noEvent) ≡ kind ∷ v ∷ [] → Fields s kind c k noEvent next
   unfolding recordOf bytesOfAll
   one-field kind most v c k next to ev ok nums =
       let t = number-took s c most next oc to in
@@ -161,7 +156,7 @@ module _ (s : List ℕ) (oc : Octets s) where
       }
 
   -- a record of its kind alone
-  no-field : (kind : ℕ) (c : Cursor) (k : CallKind) (next : ℕ) → next ≤ length s → c ≡ At next → Normal (callOf k noEvent) → numbersOf (callOf k noEvent) ≡ kind ∷ [] → Fields s kind c k noEvent next
+  no-field : (kind : ℕ) (c : Cursor) (k : CallKind) (next : ℕ) → next ≤ length s → c ≡ At next → Normal (callBy k noEvent) → numbersOf (callBy k noEvent) ≡ kind ∷ [] → Fields s kind c k noEvent next
   unfolding recordOf bytesOfAll
   no-field kind c k next in-s e ok nums = record {
     from = next;
@@ -268,7 +263,7 @@ module _ (s : List ℕ) (oc : Octets s) where
       absurd (omega arith)
 
   -- where the reader takes a call, the call is normal, and its bytes are those that the writer writes for it
-  pub record-took : (at : ℕ) (k : CallKind) (e : Event) (next : ℕ) → recordAt s at ≡ took k e next → Normal (callOf k e) × Spans s at next (recordOf (callOf k e))
+  pub record-took : (at : ℕ) (k : CallKind) (e : Event) (next : ℕ) → recordAt s at ≡ took k e next → Normal (callBy k e) × Spans s at next (recordOf (callBy k e))
   unfolding recordAt
   record-took at k e next q =
       let kind = numberFrom s (At at) most64 in
@@ -311,9 +306,9 @@ module _ (s : List ℕ) (oc : Octets s) where
       go inside ih (Taken.Refused why o) r q = absurd (not-ended why o q)
       go inside ih (Taken.Call kind next) r q =
           let t = record-took s oc at kind (recordAt s at .event) next (λ i. record { taken = r i; event = recordAt s at .event }) in
-          let some = record-some (callOf kind (recordAt s at .event)) in
-          let rest = ih next (spans-end s oc at next (recordOf (callOf kind (recordAt s at .event))) (t .1)) (omega (arith, t .1 .ends)) q in (
-            t .1 .front ∙ ap (λ (l : List ℕ). recordOf (callOf kind (recordAt s at .event)) ++ l) (rest .0) ∙ sym (records-cons _ _),
+          let some = record-some (callBy kind (recordAt s at .event)) in
+          let rest = ih next (spans-end s oc at next (recordOf (callBy kind (recordAt s at .event))) (t .1)) (omega (arith, t .1 .ends)) q in (
+            t .1 .front ∙ ap (λ (l : List ℕ). recordOf (callBy kind (recordAt s at .event)) ++ l) (rest .0) ∙ sym (records-cons _ _),
             (t .0, rest .1),
           )
 

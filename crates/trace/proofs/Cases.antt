@@ -7,7 +7,7 @@ use Rattle.panel.specs.Points.{fingers}
 use Rattle.panel.specs.Tests.{if_then_else_, _and_}
 use Rattle.panel.specs.declared.points.Point.{Point}
 use Rattle.gesture.specs.Calls.{Call, report, tick}
-use Rattle.trace.specs.Numbers.{groupsIn, valueOf, endsInZero, needless, numberAt, numberFrom}
+use Rattle.numbers.specs.Numbers.{groupsIn, valueOf, endsInZero, needless, numberAt, numberFrom}
 use Rattle.trace.specs.Records.{nowhere, pointsFrom, eventOf, reportFrom, tickFrom, ofKind, recordAt}
 use Rattle.trace.specs.Traces.{ends, recordsFrom, headOf, traceIn}
 

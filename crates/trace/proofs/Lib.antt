@@ -4,9 +4,6 @@ pub mod RoundTrip
 pub mod Again
 pub mod Promises
 pub mod Cases
-mod Grouping
-mod Spotting
-mod Bytes
+mod Unknown
+mod PointsIn
 mod Gathered
-mod Back
-mod Taken

@@ -13,21 +13,22 @@ use Rattle.panel.specs.Tests.{if_then_else_}
 use Rattle.panel.specs.declared.points.Event.{Event}
 use Rattle.panel.specs.declared.points.Point.{Point}
 use Rattle.gesture.specs.Answers.{pointsInUse}
-use Rattle.gesture.specs.Calls.{Call, report, tick, capture, captureDirect, rawNext, setGrabMs}
-use Rattle.trace.specs.Calls.{coordinates, numbersOf, bytesOfAll, recordOf, recordsOf, traceOf}
+use Rattle.gesture.specs.Calls.{Call, report, tick, capture, captureDirect, rawNext, setGrabMs, callBy}
+use Rattle.trace.specs.Calls.{coordinates, numbersOf, recordOf, recordsOf, traceOf}
+use Rattle.numbers.specs.Numbers.{bytesOfAll, bytesOf, numberFrom, read}
 use Rattle.trace.specs.Normal.{Small, Normal, AllNormal}
-use Rattle.trace.specs.Numbers.{bytesOf, numberFrom, read}
 use Rattle.trace.specs.Records.{noPoints, noEvent, pointsFrom, eventOf, reportFrom, tickFrom, rawFrom, grabFrom, ofKind, recordAt}
-use Rattle.trace.specs.Sizes.{most64, most16, most8, most1, mostBytes, version, kindReport, kindTick, kindCapture, kindDirect, kindRaw, kindGrab}
-use Rattle.trace.specs.Traces.{Traced, ends, callOf, andOn, recordsFrom, versionOf, headOf, fromHead, traceIn}
-use Rattle.trace.specs.declared.numbers.Cursor.the-variants.{At}
-use Rattle.trace.specs.declared.numbers.Value.{Value}
-use Rattle.trace.specs.declared.records.CallKind.{CallKind}
-use Rattle.trace.specs.declared.records.CallKind.the-variants as Kind
+use Rattle.numbers.specs.Sizes.{most64}
+use Rattle.trace.specs.Sizes.{most16, most8, most1, mostBytes, version, kindReport, kindTick, kindCapture, kindDirect, kindRaw, kindGrab}
+use Rattle.trace.specs.Traces.{Traced, ends, andOn, recordsFrom, versionOf, headOf, fromHead, traceIn}
+use Rattle.numbers.specs.declared.reading.Cursor.the-variants.{At}
+use Rattle.numbers.specs.declared.reading.Value.{Value}
+use Rattle.gesture.specs.declared.making.CallKind.{CallKind}
+use Rattle.gesture.specs.declared.making.CallKind.the-variants as Kind
 use Rattle.trace.specs.declared.records.ReadAnswer.{ReadAnswer}
 use Rattle.trace.specs.declared.records.Taken.the-variants as Taken
-use Rattle.trace.proofs.Back.{Holds, holds-on, number-back, number-next}
-use Rattle.trace.proofs.Bytes.{groups-some}
+use Rattle.numbers.proofs.Back.{Holds, holds-on, number-back, number-next}
+use Rattle.numbers.proofs.Bytes.{groups-some}
 
 -- Points, one after another.
 points-back : (s : List ℕ) (at : ℕ) (ps : List Point) (rest : List ℕ) → Small ps → Holds s at (bytesOfAll (coordinates ps) ++ rest) →
@@ -103,7 +104,7 @@ eventIn captureDirect = noEvent
 eventIn (rawNext on) = noEvent
 eventIn (setGrabMs ms) = noEvent
 
-same-call : (c : Call) → callOf (kindOf c) (eventIn c) ≡ c
+same-call : (c : Call) → callBy (kindOf c) (eventIn c) ≡ c
 unfolding kindOf eventIn
 same-call (report time e) = refl
 same-call (tick time) = refl

@@ -9,7 +9,7 @@ use Rattle.gesture.specs.Answers.{pointsInUse}
 use Rattle.gesture.specs.Calls.{Call, report, tick, capture, captureDirect, rawNext, setGrabMs}
 use Rattle.panel.specs.Tests.{if_then_else_}
 use Rattle.panel.specs.declared.points.Point.{Point}
-use Rattle.trace.specs.Numbers.{bytesOf}
+use Rattle.numbers.specs.Numbers.{bytesOf, bytesOfAll}
 use Rattle.trace.specs.Sizes.{version, kindReport, kindTick, kindCapture, kindDirect, kindRaw, kindGrab}
 
 unfoldable pub coordinates : List Point → List ℕ
@@ -24,10 +24,6 @@ numbersOf capture = kindCapture ∷ []
 numbersOf captureDirect = kindDirect ∷ []
 numbersOf (rawNext on) = kindRaw ∷ (if on then 1 else 0) ∷ []
 numbersOf (setGrabMs ms) = kindGrab ∷ ms ∷ []
-
-unfoldable pub bytesOfAll : List ℕ → List ℕ
-bytesOfAll [] = []
-bytesOfAll (v ∷ vs) = bytesOf v ++ bytesOfAll vs
 
 unfoldable pub recordOf : Call → List ℕ
 recordOf c = bytesOfAll (numbersOf c)

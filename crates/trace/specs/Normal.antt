@@ -9,7 +9,8 @@ use Rattle.panel.specs.declared.points.Point.{Point}
 use Rattle.gesture.specs.Answers.{pointsInUse}
 use Rattle.gesture.specs.Calls.{Call, report, tick, capture, captureDirect, rawNext, setGrabMs}
 use Rattle.trace.specs.Records.{eventOf}
-use Rattle.trace.specs.Sizes.{most64, most16, most8}
+use Rattle.numbers.specs.Sizes.{most64}
+use Rattle.trace.specs.Sizes.{most16, most8}
 
 abbrev pub Small : List Point → Type 0
 Small [] = Unit {0}

@@ -5,22 +5,27 @@
 -- (for count 1 all of `pts`)". "12 KIND: unknown record kind".
 use Prim.Native.Nat.{ℕ, zero, suc}
 use mathlib.Core.List.{List, [], _∷_, _++_}
+use mathlib.Core.Path.{_≡_}
 use lib.ListN.{take, replicate}
+use Rattle.gesture.specs.Calls.{Call, callBy}
 use Rattle.panel.specs.Points.{fingers}
+use Rattle.panel.specs.Refusals.{Told, answered, refused}
 use Rattle.panel.specs.Sizes.{maxPoints}
 use Rattle.panel.specs.Tests.{if_then_else_, _=?_}
 use Rattle.panel.specs.declared.points.Event.{Event}
 use Rattle.panel.specs.declared.points.Point.{Point}
 use Rattle.panel.specs.declared.refusals.Refusal.{Refusal}
 use Rattle.panel.specs.declared.refusals.Refusal.the-variants.{Kind}
-use Rattle.trace.specs.Numbers.{numberFrom}
-use Rattle.trace.specs.Sizes.{most64, most16, most8, most1, kindReport, kindTick, kindCapture, kindDirect, kindRaw, kindGrab}
-use Rattle.trace.specs.declared.numbers.Cursor.{Cursor}
-use Rattle.trace.specs.declared.numbers.Cursor.the-variants.{At, Stop}
-use Rattle.trace.specs.declared.records.CallKind.{CallKind}
-use Rattle.trace.specs.declared.records.CallKind.the-variants.{Report, Tick, Capture, CaptureDirect, RawNext, SetGrabMs}
+use Rattle.numbers.specs.Numbers.{numberFrom}
+use Rattle.numbers.specs.Sizes.{most64}
+use Rattle.trace.specs.Sizes.{most16, most8, most1, kindReport, kindTick, kindCapture, kindDirect, kindRaw, kindGrab}
+use Rattle.numbers.specs.declared.reading.Cursor.{Cursor}
+use Rattle.numbers.specs.declared.reading.Cursor.the-variants.{At, Stop}
+use Rattle.gesture.specs.declared.making.CallKind.{CallKind}
+use Rattle.gesture.specs.declared.making.CallKind.the-variants.{Report, Tick, Capture, CaptureDirect, RawNext, SetGrabMs}
 use Rattle.trace.specs.declared.records.ReadAnswer.{ReadAnswer}
-use Rattle.trace.specs.declared.records.Taken.the-variants.{Call, Refused}
+use Rattle.trace.specs.declared.records.Taken.{Taken}
+use Rattle.trace.specs.declared.records.Taken.the-variants as Taken
 
 abbrev pub nowhere : Point
 nowhere = record { x = 0; y = 0 }
@@ -33,11 +38,11 @@ abbrev pub noEvent : Event
 noEvent = record { points = 0; p = nowhere; pts = noPoints; keys = 0 }
 
 -- so many points in a row, and where they end
-pub record Spots : Type 0 where
+pub record PointRow : Type 0 where
   pub points : List Point
   pub to : Cursor
 
-unfoldable pub pointsFrom : List ℕ → Cursor → ℕ → Spots
+unfoldable pub pointsFrom : List ℕ → Cursor → ℕ → PointRow
 pointsFrom bytes c zero = record { points = []; to = c }
 pointsFrom bytes c (suc n) =
     let x = numberFrom bytes c most16 in
@@ -58,10 +63,10 @@ eventOf keys count ps =
 
 -- a call where its record is whole
 abbrev pub refusedAt : Refusal → ℕ → ReadAnswer
-refusedAt why at = record { taken = Refused why at; event = noEvent }
+refusedAt why at = record { taken = Taken.Refused why at; event = noEvent }
 
 abbrev pub whole : Cursor → CallKind → Event → ReadAnswer
-whole (At next) kind e = record { taken = Call kind next; event = e }
+whole (At next) kind e = record { taken = Taken.Call kind next; event = e }
 whole (Stop why at) kind e = refusedAt why at
 
 unfoldable pub reportFrom : List ℕ → Cursor → ReadAnswer
@@ -98,3 +103,21 @@ opened bytes at kind (Stop why o) = refusedAt why o
 
 unfoldable pub recordAt : List ℕ → ℕ → ReadAnswer
 recordAt bytes at = let kind = numberFrom bytes (At at) most64 in opened bytes at (kind .v) (kind .to)
+
+-- none of the six kinds
+abbrev pub NoKind : ℕ → Type 0
+NoKind kind =
+    (kind ≡ kindReport → ⊥) × (kind ≡ kindTick → ⊥) × (kind ≡ kindCapture → ⊥) × (kind ≡ kindDirect → ⊥) × (kind ≡ kindRaw → ⊥) × (kind ≡ kindGrab → ⊥)
+
+-- What was read in the documents' numbers: 0, the call and where the next record begins; or the refusal's number, no call,
+-- and the offset that goes with it.
+pub data Heard : Type 0 where
+  callTo : Call → ℕ → Heard
+  noneAt : ℕ → Heard
+
+abbrev pub toldTaken : Event → Taken → Told Heard
+toldTaken e (Taken.Call kind next) = answered (callTo (callBy kind e) next)
+toldTaken e (Taken.Refused why at) = refused why (noneAt at)
+
+abbrev pub toldRead : ReadAnswer → Told Heard
+toldRead r = toldTaken (r .event) (r .taken)

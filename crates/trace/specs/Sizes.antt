@@ -1,17 +1,6 @@
--- The numbers of document 01 that the trace turns on, each written here and nowhere else.
+-- The numbers of document 01 that the trace turns on, each written here and nowhere else: the most that each field holds
+-- (those of 64 bits are in the crate numbers), the version, the longest trace, and the six kinds of record.
 use Prim.Native.Nat.{ℕ}
-
--- "seven-bit groups": a byte below this is a last group, and one from it on has the high bit
-abbrev pub group : ℕ
-group = 128
-
--- "Ten groups without a last"
-abbrev pub mostGroups : ℕ
-mostGroups = 10
-
--- "the rest to u64"
-abbrev pub most64 : ℕ
-most64 = 18_446_744_073_709_551_615
 
 -- "count to 255", and the keys, which are eight bits
 abbrev pub most8 : ℕ

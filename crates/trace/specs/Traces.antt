@@ -6,17 +6,15 @@ use Prim.Native.Nat.{ℕ, zero, suc}
 use mathlib.Core.List.{List, [], _∷_}
 use lib.ListN.{length}
 use Rattle.panel.specs.Tests.{if_then_else_, _≤?_, _<?_, _=?_}
-use Rattle.panel.specs.declared.points.Event.{Event}
 use Rattle.panel.specs.declared.refusals.Refusal.{Refusal}
 use Rattle.panel.specs.declared.refusals.Refusal.the-variants.{Version, File}
-use Rattle.gesture.specs.Calls.{Call, report, tick, capture, captureDirect, rawNext, setGrabMs}
-use Rattle.trace.specs.Numbers.{numberFrom}
+use Rattle.gesture.specs.Calls.{Call, callBy}
+use Rattle.numbers.specs.Numbers.{numberFrom}
 use Rattle.trace.specs.Records.{recordAt}
-use Rattle.trace.specs.Sizes.{most64, version, mostBytes}
-use Rattle.trace.specs.declared.numbers.Cursor.{Cursor}
-use Rattle.trace.specs.declared.numbers.Cursor.the-variants.{At, Stop}
-use Rattle.trace.specs.declared.records.CallKind.{CallKind}
-use Rattle.trace.specs.declared.records.CallKind.the-variants.{Report, Tick, Capture, CaptureDirect, RawNext, SetGrabMs}
+use Rattle.numbers.specs.Sizes.{most64}
+use Rattle.trace.specs.Sizes.{version, mostBytes}
+use Rattle.numbers.specs.declared.reading.Cursor.{Cursor}
+use Rattle.numbers.specs.declared.reading.Cursor.the-variants.{At, Stop}
 use Rattle.trace.specs.declared.records.ReadAnswer.{ReadAnswer}
 use Rattle.trace.specs.declared.records.Taken.{Taken}
 use Rattle.trace.specs.declared.records.Taken.the-variants as Taken
@@ -30,14 +28,6 @@ pub record Traced : Type 0 where
   pub calls : List Call
   pub ending : Ending
 
-abbrev pub callOf : CallKind → Event → Call
-callOf (Report time) e = report time e
-callOf (Tick time) e = tick time
-callOf Capture e = capture
-callOf CaptureDirect e = captureDirect
-callOf (RawNext on) e = rawNext on
-callOf (SetGrabMs ms) e = setGrabMs ms
-
 abbrev pub stoppedAt : Refusal → ℕ → Traced
 stoppedAt why at = record { calls = []; ending = stops why at }
 
@@ -46,7 +36,7 @@ followed c t = record { calls = c ∷ t .calls; ending = t .ending }
 
 -- what is read after a record
 abbrev pub andOn : (ℕ → Traced) → ReadAnswer → Taken → Traced
-andOn rest r (Taken.Call kind next) = followed (callOf kind (r .event)) (rest next)
+andOn rest r (Taken.Call kind next) = followed (callBy kind (r .event)) (rest next)
 andOn rest r (Taken.Refused why at) = stoppedAt why at
 
 -- the records from a place on, at most so many: each takes a byte or more, so that as many as there are bytes are all

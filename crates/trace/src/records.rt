@@ -2,26 +2,27 @@
 ghost use mathlib.Core.Path.{_≡_};
 ghost use Prim.Native.Nat.{_≤_};
 ghost use Rattle.panel.specs.Sizes.{maxPoints};
-ghost use Rattle.panel.specs.Points.{fingers};
 ghost use Rattle.trace.specs.Records.{noPoints, noEvent, pointsFrom, filled, refusedAt, whole, reportFrom, tickFrom, rawFrom, grabFrom, ofKind, opened, recordAt};
-ghost use Rattle.trace.specs.Spots.{pointFrom, eventWith};
+ghost use Rattle.trace.specs.code.Points.{pointFrom, eventWith};
 ghost use Rattle.trace.specs.Traces.{versionOf, headOf};
-use crate::numbers;
-use crate::numbers::Cursor;
+use crate::sizes::CAPTURE;
+use crate::sizes::DIRECT;
+use crate::sizes::GRAB;
+use crate::sizes::MOST_1;
+use crate::sizes::MOST_8;
+use crate::sizes::MOST_16;
+use crate::sizes::MOST_BYTES;
+use crate::sizes::RAW;
+use crate::sizes::REPORT;
+use crate::sizes::TICK;
+use crate::sizes::VERSION;
+use gesture::CallKind;
+use numbers::Cursor;
+use numbers::MOST_64;
 use panel::Event;
 use panel::MAX_POINTS;
 use panel::Point;
 use panel::Refusal;
-
-// A call and its arguments. The report that a Report brings holds an array, so it stands beside this.
-pub enum CallKind {
-    Report(u64),
-    Tick(u64),
-    Capture,
-    CaptureDirect,
-    RawNext(bool),
-    SetGrabMs(u16),
-}
 
 // What reading a record comes to: a call and where the next record begins, or a refusal and its place.
 pub enum Taken {
@@ -36,23 +37,15 @@ pub struct ReadAnswer {
 }
 
 // A point that was read, and where it ends.
-struct Spot {
+struct PointRead {
     p: Point,
     to: Cursor,
 }
 
 // Points that were read, the others zero, and where they end.
-struct Spots {
+struct PointsRead {
     pts: [Point; MAX_POINTS],
     to: Cursor,
-}
-
-// How many points a report of that count has in use.
-pub(crate) fn in_use(count: u8) -> usize
-    ensures { λ r. ⌜ (r ≡ fingers count) × (r ≤ maxPoints) ⌝ }
-{
-    let n = count as usize;
-    if n < MAX_POINTS { n } else { MAX_POINTS }
 }
 
 fn no_points() -> [Point; MAX_POINTS]
@@ -72,14 +65,14 @@ fn no_event() -> Event
     }
 }
 
-fn point_from(s: &[u8], c: Cursor) -> Spot
+fn point_from(s: &[u8], c: Cursor) -> PointRead
     ensures { λ r. ⌜ r ≡ pointFrom (now (s .entry)) c ⌝ }
 {
-    let x = numbers::next_number(s, c, 65535);
+    let x = numbers::next_number(s, c, MOST_16);
     let cx = x.to;
-    let y = numbers::next_number(s, cx, 65535);
+    let y = numbers::next_number(s, cx, MOST_16);
     let cy = y.to;
-    Spot {
+    PointRead {
         p: Point {
             x: x.v as u16,
             y: y.v as u16,
@@ -89,7 +82,7 @@ fn point_from(s: &[u8], c: Cursor) -> Spot
 }
 
 // The next n points.
-fn points_from(s: &[u8], c: Cursor, n: usize) -> Spots
+fn points_from(s: &[u8], c: Cursor, n: usize) -> PointsRead
     requires { ⌜ n ≤ maxPoints ⌝ }
     ensures { λ r. ⌜ (r .pts ≡ filled (pointsFrom (now (s .entry)) c n .points)) × (r .to ≡ pointsFrom (now (s .entry)) c n .to) ⌝ }
 {
@@ -97,13 +90,13 @@ fn points_from(s: &[u8], c: Cursor, n: usize) -> Spots
     let mut to = c;
     let mut i = 0;
     while i < n {
-        let spot = point_from(s, to);
-        let p = spot.p;
+        let read = point_from(s, to);
+        let p = read.p;
         pts[i] = p;
-        to = spot.to;
+        to = read.to;
         i += 1;
     }
-    Spots { pts, to }
+    PointsRead { pts, to }
 }
 
 // The report that these make. `p` is the first point, and for one finger `pts` stays zero.
@@ -152,16 +145,16 @@ fn close(to: Cursor, kind: CallKind, event: Event) -> ReadAnswer
 fn report_from(s: &[u8], c: Cursor) -> ReadAnswer
     ensures { λ r. ⌜ r ≡ reportFrom (now (s .entry)) c ⌝ }
 {
-    let time = numbers::next_number(s, c, 18_446_744_073_709_551_615);
+    let time = numbers::next_number(s, c, MOST_64);
     let ct = time.to;
-    let keys = numbers::next_number(s, ct, 255);
+    let keys = numbers::next_number(s, ct, MOST_8);
     let ck = keys.to;
-    let count = numbers::next_number(s, ck, 255);
+    let count = numbers::next_number(s, ck, MOST_8);
     let cc = count.to;
     let fingers = count.v as u8;
-    let spots = points_from(s, cc, in_use(fingers));
-    let to = spots.to;
-    let pts = spots.pts;
+    let read = points_from(s, cc, panel::fingers_of(fingers));
+    let to = read.to;
+    let pts = read.pts;
     let event = event_with(keys.v as u8, fingers, pts);
     close(to, CallKind::Report(time.v), event)
 }
@@ -169,7 +162,7 @@ fn report_from(s: &[u8], c: Cursor) -> ReadAnswer
 fn tick_from(s: &[u8], c: Cursor) -> ReadAnswer
     ensures { λ r. ⌜ r ≡ tickFrom (now (s .entry)) c ⌝ }
 {
-    let time = numbers::next_number(s, c, 18_446_744_073_709_551_615);
+    let time = numbers::next_number(s, c, MOST_64);
     let to = time.to;
     close(to, CallKind::Tick(time.v), no_event())
 }
@@ -177,7 +170,7 @@ fn tick_from(s: &[u8], c: Cursor) -> ReadAnswer
 fn raw_from(s: &[u8], c: Cursor) -> ReadAnswer
     ensures { λ r. ⌜ r ≡ rawFrom (now (s .entry)) c ⌝ }
 {
-    let on = numbers::next_number(s, c, 1);
+    let on = numbers::next_number(s, c, MOST_1);
     let to = on.to;
     close(to, CallKind::RawNext(on.v == 1), no_event())
 }
@@ -185,7 +178,7 @@ fn raw_from(s: &[u8], c: Cursor) -> ReadAnswer
 fn grab_from(s: &[u8], c: Cursor) -> ReadAnswer
     ensures { λ r. ⌜ r ≡ grabFrom (now (s .entry)) c ⌝ }
 {
-    let ms = numbers::next_number(s, c, 65535);
+    let ms = numbers::next_number(s, c, MOST_16);
     let to = ms.to;
     close(to, CallKind::SetGrabMs(ms.v as u16), no_event())
 }
@@ -195,12 +188,12 @@ fn of_kind(s: &[u8], at: usize, kind: u64, c: Cursor) -> ReadAnswer
     ensures { λ r. ⌜ r ≡ ofKind (now (s .entry)) at kind c ⌝ }
 {
     match kind {
-        1 => report_from(s, c),
-        2 => tick_from(s, c),
-        3 => close(c, CallKind::Capture, no_event()),
-        4 => close(c, CallKind::CaptureDirect, no_event()),
-        5 => raw_from(s, c),
-        6 => grab_from(s, c),
+        REPORT => report_from(s, c),
+        TICK => tick_from(s, c),
+        CAPTURE => close(c, CallKind::Capture, no_event()),
+        DIRECT => close(c, CallKind::CaptureDirect, no_event()),
+        RAW => raw_from(s, c),
+        GRAB => grab_from(s, c),
         _ => refuse(Refusal::Kind, at),
     }
 }
@@ -218,7 +211,7 @@ fn open(s: &[u8], at: usize, kind: u64, c: Cursor) -> ReadAnswer
 pub fn next_record(s: &[u8], at: usize) -> ReadAnswer
     ensures { λ r. ⌜ r ≡ recordAt (now (s .entry)) at ⌝ }
 {
-    let kind = numbers::next_number(s, Cursor::At(at), 18_446_744_073_709_551_615);
+    let kind = numbers::next_number(s, Cursor::At(at), MOST_64);
     let c = kind.to;
     open(s, at, kind.v, c)
 }
@@ -228,7 +221,7 @@ fn version(v: u64, c: Cursor) -> Cursor
 {
     match c {
         Cursor::At(next) => {
-            if v == 1 {
+            if v == VERSION {
                 return Cursor::At(next);
             }
             Cursor::Stop(Refusal::Version, 0)
@@ -241,10 +234,10 @@ fn version(v: u64, c: Cursor) -> Cursor
 pub fn head(s: &[u8]) -> Cursor
     ensures { λ r. ⌜ r ≡ headOf (now (s .entry)) ⌝ }
 {
-    if 65536 < s.len() {
+    if MOST_BYTES < s.len() {
         return Cursor::Stop(Refusal::File, 0);
     }
-    let v = numbers::next_number(s, Cursor::At(0), 18_446_744_073_709_551_615);
+    let v = numbers::next_number(s, Cursor::At(0), MOST_64);
     let c = v.to;
     version(v.v, c)
 }

@@ -7,7 +7,9 @@ use Rattle.text.proofs.playing.play.Statement.{statement}
 use Rattle.text.proofs.playing.play.Tie as tie
 
 returns : tie.Need-returns
-returns c = no-room (c .before .before .before .args .s .now) (c .before .before .before .args .out .now) (c .if1 .taken)
+returns c =
+    let a = c .before .before .before .args in
+    no-room (a .s .now) (a .out .now) (c .if1 .taken)
 
 head-requires : tie.Need-head-requires
 head-requires c κs = search needs
@@ -16,7 +18,11 @@ enum-known-c : tie.Need-enum-known-c
 enum-known-c c = search needs
 
 records-requires : tie.Need-records-requires
-records-requires c κs = (head-short (c .before .before .before .before .before .before .before .before .args .s .now) _ (sym (c .before .before .before .before .head .ensures) ∙ c .before .before .c .given .1), omega (arith, c .before .before .before .before .before .if1 .left))
+records-requires c κs =
+    let at = c .before .before in
+    let h = at .before .before in
+    let a = h .before .before .before .before .args in
+    (head-short (a .s .now) _ (sym (h .head .ensures) ∙ at .c .given .1), omega (arith, h .before .if1 .left))
 
 enum-known-c-2 : tie.Need-enum-known-c-2
 enum-known-c-2 c = search needs
@@ -28,13 +34,23 @@ same-length : tie.Need-same-length
 same-length c = search needs
 
 returns-2 : tie.Need-returns-2
-returns-2 c = played-records (c .before .before .before .before .before .before .before .before .before .before .before .args .s .now) (c .before .before .before .before .before .before .before .before .before .before .before .args .out .now) _ _ _ (sym (c .before .before .before .before .before .before .before .head .ensures) ∙ c .before .before .before .before .before .c .given .1) (omega (arith, c .before .before .before .before .before .before .before .before .if1 .left)) (c .before .before .records .ensures)
+returns-2 c =
+    let r = c .before .before in
+    let at = r .before .before .before in
+    let h = at .before .before in
+    let a = h .before .before .before .before .args in
+    played-records (a .s .now) (a .out .now) _ _ _ (sym (h .head .ensures) ∙ at .c .given .1) (omega (arith, h .before .if1 .left)) (r .records .ensures)
 
 same-length-2 : tie.Need-same-length-2
 same-length-2 c = search needs
 
 returns-3 : tie.Need-returns-3
-returns-3 c = played-stop (c .before .before .before .before .before .before .before .before .before .before .before .args .s .now) (c .before .before .before .before .before .before .before .before .before .before .before .args .out .now) _ _ _ _ (sym (c .before .before .before .before .before .before .before .head .ensures) ∙ c .before .before .before .before .before .c2 .given .1) (omega (arith, c .before .before .before .before .before .before .before .before .if1 .left)) (c .before .before .stop-line .ensures)
+returns-3 c =
+    let l = c .before .before in
+    let stop = l .before .before .before in
+    let h = stop .before .before in
+    let a = h .before .before .before .before .args in
+    played-stop (a .s .now) (a .out .now) _ _ _ _ (sym (h .head .ensures) ∙ stop .c2 .given .1) (omega (arith, h .before .if1 .left)) (l .stop-line .ensures)
 
 pub play-spec : {M : Type 1} → statement M
 play-spec =

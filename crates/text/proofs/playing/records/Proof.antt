@@ -19,16 +19,28 @@ fresh-requires : tie.Need-fresh-requires Inv-loop μ-loop
 fresh-requires c κs = search needs
 
 loop-holds : tie.Need-loop-holds Inv-loop μ-loop
-loop-holds c = going-from (c .before .before .before .args .s .now) (c .before .before .before .args .out .now) (c .before .before .before .args .from) _ (c .fresh .ensures) (c .before .before .before .pre .1)
+loop-holds c =
+    let s = c .before .before .before in
+    going-from (s .args .s .now) (s .args .out .now) (s .args .from) _ (c .fresh .ensures) (s .pre .1)
 
 end-line-requires : tie.Need-end-line-requires Inv-loop μ-loop
-end-line-requires c κs = (omega (arith, c .before .before .before .loop .inv .count, c .before .before .before .before .before .before .before .pre .0), omega (arith, c .before .before .before .loop .inv .room))
+end-line-requires c κs =
+    let l = c .before .before .before in
+    let s = l .before .before .before .before in
+    (omega (arith, l .loop .inv .count, s .pre .0), omega (arith, l .loop .inv .room))
 
 same-length : tie.Need-same-length Inv-loop μ-loop
-same-length c = c .before .before .end-line .kept .0 ∙ c .before .before .before .before .before .before .loop .inv .long
+same-length c =
+    let e = c .before .before in
+    let l = e .before .before .before .before in
+    e .end-line .kept .0 ∙ l .loop .inv .long
 
 returns : tie.Need-returns Inv-loop μ-loop
-returns c = going-past (c .before .before .before .before .before .before .before .before .before .before .args .s .now) (c .before .before .before .before .before .before .before .before .before .before .args .out .now) (printed (recordsFrom (length (c .before .before .before .before .before .before .before .before .before .before .args .s .now)) (c .before .before .before .before .before .before .before .before .before .before .args .s .now) (c .before .before .before .before .before .before .before .before .before .before .args .from))) (c .before .before .before .before .before .before .loop .out) (c .before .before .before .before .before .before .loop .t) (c .before .before .before .before .before .before .loop .at) (c .before .before .before .before .before .before .loop .to) (c .before .before .before .before .before .before .loop .i) (c .before .before .before .before .before .before .loop .left) (c .before .before .before .before .before .before .loop .inv) _ _ (c .before .before .before .before .before .loop-test .taken) (c .before .before .before .before .if1 .taken) (c .before .before .end-line .ensures)
+returns c =
+    let e = c .before .before in
+    let past = e .before .before in
+    let l = past .before .before in
+    going-past _ _ _ _ _ _ _ _ _ (l .loop .inv) _ _ (past .before .loop-test .taken) (past .if1 .taken) (e .end-line .ensures)
 
 next-record-requires : tie.Need-next-record-requires Inv-loop μ-loop
 next-record-requires c κs = search needs
@@ -36,29 +48,59 @@ next-record-requires c κs = search needs
 enum-known-taken : tie.Need-enum-known-taken Inv-loop μ-loop
 enum-known-taken c = search needs
 
-answer-requires : tie.Need-answer-requires Inv-loop μ-loop
-answer-requires c κs = search needs
+make-requires : tie.Need-make-requires Inv-loop μ-loop
+make-requires c κs = search needs
 
 add-answer-line : tie.Need-add-answer-line Inv-loop μ-loop
-add-answer-line c = omega (arith, c .before .before .before .before .before .before .before .before .before .loop .inv .count, c .before .before .before .before .before .before .before .before .before .before .before .before .before .pre .0)
+add-answer-line c =
+    let w = c .before .before .before in
+    let r = w .before .before .before in
+    let l = r .before .before .before in
+    let s = l .before .before .before .before in
+    omega (arith, l .loop .inv .count, s .pre .0)
 
 answer-line-requires : tie.Need-answer-line-requires Inv-loop μ-loop
-answer-line-requires c κs = (omega (arith, c .before .before .before .before .before .before .before .before .before .loop .inv .count, c .before .before .before .before .before .before .before .before .before .before .before .before .before .pre .0), omega (arith, c .before .before .before .before .before .before .before .before .before .loop .inv .room))
+answer-line-requires c κs =
+    let w = c .before .before .before in
+    let r = w .before .before .before in
+    let l = r .before .before .before in
+    let s = l .before .before .before .before in
+    (omega (arith, l .loop .inv .count, s .pre .0), omega (arith, l .loop .inv .room))
 
 enum-known-taken-2 : tie.Need-enum-known-taken-2 Inv-loop μ-loop
 enum-known-taken-2 c = search needs
 
 stop-line-requires : tie.Need-stop-line-requires Inv-loop μ-loop
-stop-line-requires c κs = omega (arith, c .before .before .before .before .before .before .before .before .loop .inv .room)
+stop-line-requires c κs =
+    let w = c .before .before in
+    let r = w .before .before .before in
+    let l = r .before .before .before in
+    omega (arith, l .loop .inv .room)
 
 same-length-2 : tie.Need-same-length-2 Inv-loop μ-loop
-same-length-2 c = c .before .before .stop-line .kept .0 ∙ c .before .before .before .before .before .before .before .before .before .before .before .loop .inv .long
+same-length-2 c =
+    let e = c .before .before in
+    let w = e .before .before .before in
+    let r = w .before .before .before in
+    let l = r .before .before .before in
+    e .stop-line .kept .0 ∙ l .loop .inv .long
 
 returns-2 : tie.Need-returns-2 Inv-loop μ-loop
-returns-2 c = going-stop (c .before .before .before .before .before .before .before .before .before .before .before .before .before .before .before .args .s .now) (c .before .before .before .before .before .before .before .before .before .before .before .before .before .before .before .args .out .now) (printed (recordsFrom (length (c .before .before .before .before .before .before .before .before .before .before .before .before .before .before .before .args .s .now)) (c .before .before .before .before .before .before .before .before .before .before .before .before .before .before .before .args .s .now) (c .before .before .before .before .before .before .before .before .before .before .before .before .before .before .before .args .from))) (c .before .before .before .before .before .before .before .before .before .before .before .loop .out) (c .before .before .before .before .before .before .before .before .before .before .before .loop .t) (c .before .before .before .before .before .before .before .before .before .before .before .loop .at) (c .before .before .before .before .before .before .before .before .before .before .before .loop .to) (c .before .before .before .before .before .before .before .before .before .before .before .loop .i) (c .before .before .before .before .before .before .before .before .before .before .before .loop .left) (c .before .before .before .before .before .before .before .before .before .before .before .loop .inv) (c .before .before .before .before .before .before .before .before .next-record .result) (c .before .before .before .before .before .before .before .before .before .before .loop-test .taken) (omega (arith, c .before .before .before .before .before .before .before .before .before .if1 .left)) (c .before .before .before .before .before .before .before .before .next-record .ensures) _ _ _ _ (c .before .before .before .before .before .taken2 .given .1) (c .before .before .stop-line .ensures)
+returns-2 c =
+    let e = c .before .before in
+    let w = e .before .before .before in
+    let r = w .before .before .before in
+    let l = r .before .before .before in
+    going-stop _ _ _ _ _ _ _ _ _ (l .loop .inv) (r .next-record .result) (r .before .before .loop-test .taken) (omega (arith, r .before .if1 .left)) (r .next-record .ensures) _ _ _ _ (w .taken2 .given .1) (e .stop-line .ensures)
 
 add-i : tie.Need-add-i Inv-loop μ-loop
-add-i c = omega (arith, c .before .before .before .before .before .before .before .before .before .before .before .before .before .loop .inv .count, c .before .before .before .before .before .before .before .before .before .before .before .before .before .before .before .before .before .pre .0)
+add-i c =
+    let e = c .before .before .before in
+    let w = e .before .before .before .before in
+    let r = w .before .before .before in
+    let l = r .before .before .before in
+    let s = l .before .before .before .before in
+    omega (arith, l .loop .inv .count, s .pre .0)
 
 sub-left : tie.Need-sub-left Inv-loop μ-loop
 sub-left c = omega arith
@@ -67,16 +109,31 @@ loop-less : tie.Need-loop-less Inv-loop μ-loop
 loop-less c = omega arith
 
 loop-again : tie.Need-loop-again Inv-loop μ-loop
-loop-again c = going-on (c .before .before .before .before .before .before .before .before .before .before .before .before .before .before .before .before .before .args .s .now) (c .before .before .before .before .before .before .before .before .before .before .before .before .before .before .before .before .before .args .out .now) (printed (recordsFrom (length (c .before .before .before .before .before .before .before .before .before .before .before .before .before .before .before .before .before .args .s .now)) (c .before .before .before .before .before .before .before .before .before .before .before .before .before .before .before .before .before .args .s .now) (c .before .before .before .before .before .before .before .before .before .before .before .before .before .before .before .before .before .args .from))) (c .before .before .before .before .before .before .before .before .before .before .before .before .before .loop .out) (c .before .before .before .before .before .before .before .before .before .before .before .before .before .loop .t) (c .before .before .before .before .before .before .before .before .before .before .before .before .before .loop .at) (c .before .before .before .before .before .before .before .before .before .before .before .before .before .loop .to) (c .before .before .before .before .before .before .before .before .before .before .before .before .before .loop .i) (c .before .before .before .before .before .before .before .before .before .before .before .before .before .loop .left) (c .before .before .before .before .before .before .before .before .before .before .before .before .before .loop .inv) (c .before .before .before .before .before .before .before .before .before .before .next-record .result) (c .before .before .before .before .before .before .before .before .before .before .before .before .loop-test .taken) (omega (arith, c .before .before .before .before .before .before .before .before .before .before .before .if1 .left)) (c .before .before .before .before .before .before .before .before .before .before .next-record .ensures) _ _ (c .before .before .before .before .before .answer .result) _ _ (c .before .before .before .before .before .before .before .taken .given .1) (c .before .before .before .before .before .answer .ensures) (c .before .before .before .answer-line .ensures)
+loop-again c =
+    let e = c .before .before .before in
+    let m = e .before .before in
+    let w = m .before .before in
+    let r = w .before .before .before in
+    let l = r .before .before .before in
+    going-on _ _ _ _ _ _ _ _ _ (l .loop .inv) (r .next-record .result) (r .before .before .loop-test .taken) (omega (arith, r .before .if1 .left)) (r .next-record .ensures) _ _ (m .make .result) _ _ (w .taken .given .1) (m .make .ensures) (e .answer-line .ensures)
 
 end-line-requires-2 : tie.Need-end-line-requires-2 Inv-loop μ-loop
-end-line-requires-2 c κs = (omega (arith, c .before .before .loop .inv .count, c .before .before .before .before .before .before .pre .0), omega (arith, c .before .before .loop .inv .room))
+end-line-requires-2 c κs =
+    let l = c .before .before in
+    let s = l .before .before .before .before in
+    (omega (arith, l .loop .inv .count, s .pre .0), omega (arith, l .loop .inv .room))
 
 same-length-3 : tie.Need-same-length-3 Inv-loop μ-loop
-same-length-3 c = c .before .before .end-line2 .kept .0 ∙ c .before .before .before .before .before .loop .inv .long
+same-length-3 c =
+    let e = c .before .before in
+    let l = e .before .before .before in
+    e .end-line2 .kept .0 ∙ l .loop .inv .long
 
 returns-3 : tie.Need-returns-3 Inv-loop μ-loop
-returns-3 c = going-end (c .before .before .before .before .before .before .before .before .before .args .s .now) (c .before .before .before .before .before .before .before .before .before .args .out .now) (printed (recordsFrom (length (c .before .before .before .before .before .before .before .before .before .args .s .now)) (c .before .before .before .before .before .before .before .before .before .args .s .now) (c .before .before .before .before .before .before .before .before .before .args .from))) (c .before .before .before .before .before .loop .out) (c .before .before .before .before .before .loop .t) (c .before .before .before .before .before .loop .at) (c .before .before .before .before .before .loop .to) (c .before .before .before .before .before .loop .i) (c .before .before .before .before .before .loop .left) (c .before .before .before .before .before .loop .inv) _ _ (omega arith) (c .before .before .end-line2 .ensures)
+returns-3 c =
+    let e = c .before .before in
+    let l = e .before .before .before in
+    going-end _ _ _ _ _ _ _ _ _ (l .loop .inv) _ _ (omega arith) (e .end-line2 .ensures)
 
 pub records-spec : {M : Type 1} → statement M
 records-spec =
@@ -91,7 +148,7 @@ records-spec =
     returns
     next-record-requires
     enum-known-taken
-    answer-requires
+    make-requires
     add-answer-line
     answer-line-requires
     enum-known-taken-2

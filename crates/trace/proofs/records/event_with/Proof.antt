@@ -1,7 +1,7 @@
 -- `trace::records::event_with` meets its contract. Assumes nothing.
 use borrow.Author.Needs.{needs}
 use Rattle.panel.proofs.Follow.{follow}
-use Rattle.trace.specs.Spots.{eventWith}
+use Rattle.trace.specs.code.Points.{eventWith}
 use Rattle.trace.proofs.records.event_with.Statement.{statement}
 use Rattle.trace.proofs.records.event_with.Tie as tie
 

@@ -1,6 +1,6 @@
 -- `trace::records::point_from` meets its contract. Assumes nothing.
 use borrow.Author.Needs.{needs}
-use Rattle.trace.specs.Spots.{pointFrom}
+use Rattle.trace.specs.code.Points.{pointFrom}
 use Rattle.trace.proofs.records.point_from.Statement.{statement}
 use Rattle.trace.proofs.records.point_from.Tie as tie
 

@@ -6,8 +6,8 @@ use native.Mathlib.Omega.{arith}
 use lib.ListN.{set}
 use borrow.Author.Needs.{needs}
 use Rattle.panel.specs.declared.points.Point.{Point}
-use Rattle.trace.specs.declared.records.Spot.{Spot}
-use Rattle.trace.proofs.Spotting.{Reading, none-read, one-read, all-read, all-end}
+use Rattle.trace.specs.declared.records.PointRead.{PointRead}
+use Rattle.trace.proofs.PointsIn.{Reading, none-read, one-read, all-read, all-end}
 use Rattle.trace.proofs.records.points_from.Statement.{statement}
 use Rattle.trace.proofs.records.points_from.Tie as tie
 
@@ -44,7 +44,7 @@ loop-again : tie.Need-loop-again Inv-loop μ-loop
 loop-again c =
     let l = c .before .before .before in
     let a = l .before .before .before .args in
-    subst (λ (spot : Spot). Reading (a .s .now) (a .c) (a .n) (set (l .loop .pts) (l .loop .i) (spot .p)) (spot .to) (l .loop .i + 1)) (sym (c .before .point-from .ensures))
+    subst (λ (read : PointRead). Reading (a .s .now) (a .c) (a .n) (set (l .loop .pts) (l .loop .i) (read .p)) (read .to) (l .loop .i + 1)) (sym (c .before .point-from .ensures))
     (one-read (a .s .now) (a .c) (a .n) (l .loop .pts) (l .loop .to) (l .loop .i) (l .before .before .before .pre) (l .loop .inv) (c .before .before .loop-test .taken))
 
 returns : tie.Need-returns Inv-loop μ-loop

@@ -1,6 +1,6 @@
 -- `trace::records::report_from` meets its contract. Assumes nothing.
 use borrow.Author.Needs.{needs}
-use Rattle.trace.proofs.Spotting.{report-is}
+use Rattle.trace.proofs.PointsIn.{report-is}
 use Rattle.trace.proofs.records.report_from.Statement.{statement}
 use Rattle.trace.proofs.records.report_from.Tie as tie
 
@@ -16,8 +16,8 @@ next-number-requires-3 c κs = search needs
 cast-fingers : tie.Need-cast-fingers
 cast-fingers c = search needs
 
-in-use-requires : tie.Need-in-use-requires
-in-use-requires c κs = search needs
+fingers-of-requires : tie.Need-fingers-of-requires
+fingers-of-requires c κs = search needs
 
 points-from-requires : tie.Need-points-from-requires
 points-from-requires c κs = search needs
@@ -33,8 +33,14 @@ close-requires c κs = search needs
 
 returns : tie.Need-returns
 returns c =
-    let ps = c .before .before .before .before .points-from .ensures in
-    report-is _ _ _ _ _ _ _ _ _ _ (c .before .before .before .before .before .before .before .before .before .next-number .ensures .0) (c .before .before .before .before .before .before .before .before .next-number2 .ensures .0) (c .before .before .before .before .before .before .before .next-number3 .ensures .0) (c .before .before .before .before .before .in-use .ensures .0) (ps .0) (ps .1) (c .before .event-with .ensures) (c .close .ensures)
+    let event = c .before in
+    let points = event .before .before .before in
+    let used = points .before in
+    let count = used .before .before in
+    let keys = count .before in
+    let time = keys .before in
+    let ps = points .points-from .ensures in
+    report-is _ _ _ _ _ _ _ _ _ _ (time .next-number .ensures .0) (keys .next-number2 .ensures .0) (count .next-number3 .ensures .0) (used .fingers-of .ensures .0) (ps .0) (ps .1) (event .event-with .ensures) (c .close .ensures)
 
 pub report-from-spec : {M : Type 1} → statement M
 report-from-spec =
@@ -44,7 +50,7 @@ report-from-spec =
     next-number-requires-2
     next-number-requires-3
     cast-fingers
-    in-use-requires
+    fingers-of-requires
     points-from-requires
     cast-event-with
     event-with-requires

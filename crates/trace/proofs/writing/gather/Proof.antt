@@ -1,96 +1,130 @@
 -- `trace::writing::gather` meets its contract. Assumes nothing.
-use Prim.Native.Nat.{_*_}
+use Prim.Native.Nat.{ℕ, _≤_, _-_}
+use mathlib.Core.Path.{_≡_, refl, ap, _∙_}
+use mathlib.Core.List.{[], _∷_}
 use native.Mathlib.Omega.{arith}
+use lib.ListN.{length, take}
 use borrow.Author.Needs.{needs}
-use Rattle.panel.specs.Points.{fingers}
-use Rattle.trace.specs.Spots.{fiveAfter}
-use Rattle.trace.proofs.Gathered.{past-four}
+use Rattle.panel.specs.Sizes.{maxPoints}
+use Rattle.trace.specs.Calls.{coordinates}
+use Rattle.trace.specs.Sizes.{kindReport}
+use Rattle.trace.proofs.Gathered.{Gathering, none-more, one-more}
 use Rattle.trace.proofs.writing.gather.Statement.{statement}
 use Rattle.trace.proofs.writing.gather.Tie as tie
 
-array-copy-out-b : tie.Need-array-copy-out-b
-array-copy-out-b c = search needs
+abbrev Inv-loop : tie.InvT-loop
+Inv-loop time keys count pts v₀ used n₀ i₀ v n i = (i ≤ used) × Gathering (kindReport ∷ time ∷ keys ∷ count ∷ []) pts v n i
 
-array-copy-out-c : tie.Need-array-copy-out-c
-array-copy-out-c c = search needs
+abbrev μ-loop : tie.MeasureT-loop
+μ-loop time keys count pts v₀ used n₀ i₀ v n i = used - i
 
-array-copy-out-d : tie.Need-array-copy-out-d
-array-copy-out-d c = search needs
+array-write-v : tie.Need-array-write-v Inv-loop μ-loop
+array-write-v c = search needs
 
-array-copy-out-e : tie.Need-array-copy-out-e
-array-copy-out-e c = search needs
+array-write-v-2 : tie.Need-array-write-v-2 Inv-loop μ-loop
+array-write-v-2 c = search needs
 
-in-use-requires : tie.Need-in-use-requires
-in-use-requires c κs = search needs
-
-mul-n : tie.Need-mul-n
-mul-n c = search needs
-
-add-n : tie.Need-add-n
-add-n c = search needs
-
-wide8-requires : tie.Need-wide8-requires
+wide8-requires : tie.Need-wide8-requires Inv-loop μ-loop
 wide8-requires c κs = search needs
 
-wide8-requires-2 : tie.Need-wide8-requires-2
+array-write-v-3 : tie.Need-array-write-v-3 Inv-loop μ-loop
+array-write-v-3 c = search needs
+
+wide8-requires-2 : tie.Need-wide8-requires-2 Inv-loop μ-loop
 wide8-requires-2 c κs = search needs
 
-wide16-requires : tie.Need-wide16-requires
+array-write-v-4 : tie.Need-array-write-v-4 Inv-loop μ-loop
+array-write-v-4 c = search needs
+
+fingers-of-requires : tie.Need-fingers-of-requires Inv-loop μ-loop
+fingers-of-requires c κs = search needs
+
+loop-holds : tie.Need-loop-holds Inv-loop μ-loop
+loop-holds c =
+    let w = c .before in
+    let a = w .before .before .args in
+    (omega arith, none-more (a .time) (a .keys) (a .count) _ _ (a .t4) (w .before .wide8 .ensures) (w .wide82 .ensures))
+
+mul-p : tie.Need-mul-p Inv-loop μ-loop
+mul-p c = search needs
+
+array-copy-out-p : tie.Need-array-copy-out-p Inv-loop μ-loop
+array-copy-out-p c = search needs
+
+wide16-requires : tie.Need-wide16-requires Inv-loop μ-loop
 wide16-requires c κs = search needs
 
-wide16-requires-2 : tie.Need-wide16-requires-2
+mul-v : tie.Need-mul-v Inv-loop μ-loop
+mul-v c = search needs
+
+array-write-v-5 : tie.Need-array-write-v-5 Inv-loop μ-loop
+array-write-v-5 c = search needs
+
+wide16-requires-2 : tie.Need-wide16-requires-2 Inv-loop μ-loop
 wide16-requires-2 c κs = search needs
 
-wide16-requires-3 : tie.Need-wide16-requires-3
-wide16-requires-3 c κs = search needs
+add-v : tie.Need-add-v Inv-loop μ-loop
+add-v c = search needs
 
-wide16-requires-4 : tie.Need-wide16-requires-4
-wide16-requires-4 c κs = search needs
+mul-v-2 : tie.Need-mul-v-2 Inv-loop μ-loop
+mul-v-2 c = search needs
 
-wide16-requires-5 : tie.Need-wide16-requires-5
-wide16-requires-5 c κs = search needs
+array-write-v-6 : tie.Need-array-write-v-6 Inv-loop μ-loop
+array-write-v-6 c = search needs
 
-wide16-requires-6 : tie.Need-wide16-requires-6
-wide16-requires-6 c κs = search needs
+add-n : tie.Need-add-n Inv-loop μ-loop
+add-n c = search needs
 
-wide16-requires-7 : tie.Need-wide16-requires-7
-wide16-requires-7 c κs = search needs
+add-i : tie.Need-add-i Inv-loop μ-loop
+add-i c = search needs
 
-wide16-requires-8 : tie.Need-wide16-requires-8
-wide16-requires-8 c κs = search needs
+loop-less : tie.Need-loop-less Inv-loop μ-loop
+loop-less c = search needs
 
-wide16-requires-9 : tie.Need-wide16-requires-9
-wide16-requires-9 c κs = search needs
+loop-again : tie.Need-loop-again Inv-loop μ-loop
+loop-again c =
+    let x = c .before in
+    let l = x .before .before .before in
+    let f = l .before in
+    let a = f .before .before .before .args in
+    let g = l .loop .inv .1 in
+    let five : length (a .t4) ≡ maxPoints = f .before .before .before .good .1 .1 .1 .0 .1 .0 .1 in
+    (omega arith, one-more _ (a .t4) (l .loop .v) (l .loop .n) (l .loop .i) _ _ (omega arith) (omega (arith, g .many, f .fingers-of .ensures .1)) (x .wide16 .ensures) (c .wide162 .ensures) g)
 
-wide16-requires-10 : tie.Need-wide16-requires-10
-wide16-requires-10 c κs = search needs
-
-returns : tie.Need-returns
+returns : tie.Need-returns Inv-loop μ-loop
 returns c =
-    let a = c .before .before .before .before .before .before .before .before .before .before .before .before .before .before .before .before .before .args in
-    (simp (c .wide1610 .ensures, c .before .wide169 .ensures, c .before .before .wide168 .ensures, c .before .before .before .wide167 .ensures, c .before .before .before .before .wide166 .ensures, c .before .before .before .before .before .wide165 .ensures, c .before .before .before .before .before .before .wide164 .ensures, c .before .before .before .before .before .before .before .wide163 .ensures, c .before .before .before .before .before .before .before .before .wide162 .ensures, c .before .before .before .before .before .before .before .before .before .wide16 .ensures, c .before .before .before .before .before .before .before .before .before .before .wide82 .ensures, c .before .before .before .before .before .before .before .before .before .before .before .wide8 .ensures, c .before .before .before .before .before .before .before .before .before .before .before .before .in-use .ensures .0) (past-four 1 (a .time) (a .keys) (a .count) (2 * fingers (a .count)) (fiveAfter (a .a) (a .t5))), omega (arith, c .before .before .before .before .before .before .before .before .before .before .before .before .in-use .ensures .1), omega arith)
+    let l = c .before in
+    let f = l .before in
+    let a = f .before .before .before .args in
+    let g = l .loop .inv .1 in
+    let e : l .loop .i ≡ f .fingers-of .result = omega arith in
+    (g .front ∙ ap (λ (k : ℕ). kindReport ∷ a .time ∷ a .keys ∷ a .count ∷ coordinates (take k (a .t4))) (e ∙ f .fingers-of .ensures .0), omega (arith, g .many, f .fingers-of .ensures .1))
 
 pub gather-spec : {M : Type 1} → statement M
 gather-spec =
     tie.close
     (tie.spec
-    array-copy-out-b
-    array-copy-out-c
-    array-copy-out-d
-    array-copy-out-e
-    in-use-requires
-    mul-n
-    add-n
+    Inv-loop
+    μ-loop
+    array-write-v
+    array-write-v-2
     wide8-requires
+    array-write-v-3
     wide8-requires-2
+    array-write-v-4
+    fingers-of-requires
+    loop-holds
+    mul-p
+    array-copy-out-p
     wide16-requires
+    mul-v
+    array-write-v-5
     wide16-requires-2
-    wide16-requires-3
-    wide16-requires-4
-    wide16-requires-5
-    wide16-requires-6
-    wide16-requires-7
-    wide16-requires-8
-    wide16-requires-9
-    wide16-requires-10
+    add-v
+    mul-v-2
+    array-write-v-6
+    add-n
+    add-i
+    loop-less
+    loop-again
     returns)

@@ -1,73 +1,59 @@
 -- `trace::writing::put_record` meets its contract. Assumes nothing.
-use Prim.Native.Nat.{ℕ, _+_}
+use Prim.Native.Nat.{ℕ}
 use mathlib.Core.Path.{_≡_, sym, ap, _∙_}
 use mathlib.Core.List.{List}
 use native.Mathlib.Omega.{arith}
-use lib.ListN.{length, take}
-use lib.Seq.{sets}
+use lib.ListN.{length, take, length-take}
 use borrow.Author.Needs.{needs}
-use Rattle.trace.specs.Calls.{bytesOfAll, recordOf}
-use Rattle.trace.specs.Traces.{callOf}
-use Rattle.trace.proofs.Gathered.{no-room, with-room}
+use Rattle.gesture.specs.Calls.{callOf}
+use Rattle.numbers.specs.Numbers.{bytesOfAll}
+use Rattle.numbers.specs.Writing.{wroteOf, writtenOf}
+use Rattle.trace.specs.Calls.{recordOf}
+use Rattle.trace.specs.code.Sizes.{mostNumbers}
 use Rattle.trace.proofs.writing.put_record.Statement.{statement}
 use Rattle.trace.proofs.writing.put_record.Tie as tie
 
 -- the bytes of the numbers gathered are the record's
-record-is : (c : tie.After-numbers) → recordOf (callOf (c .before .before .args .kind) (c .before .before .args .event)) ≡ bytesOfAll (take (c .numbers .result .n) (c .numbers .result .v))
+record-is : (c : tie.After-gathered-of) → bytesOfAll (take (c .gathered-of .result .n) (c .gathered-of .result .v)) ≡ recordOf (callOf (c .before .before .before .args .c))
 unfolding recordOf
-record-is c = sym (ap bytesOfAll (c .numbers .ensures .0))
+record-is c = ap bytesOfAll (c .gathered-of .ensures .0)
 
-numbers-requires : tie.Need-numbers-requires
-numbers-requires c κs = search needs
+gathered-of-requires : tie.Need-gathered-of-requires
+gathered-of-requires c κs = search needs
 
-slice-aggregate-total : tie.Need-slice-aggregate-total
-slice-aggregate-total c = search needs
+array-share-prefix-v : tie.Need-array-share-prefix-v
+array-share-prefix-v c =
+    let g = c .before .before in
+    let all : length (g .gathered-of .result .v) ≡ mostNumbers = search needs in
+    omega (arith, g .gathered-of .ensures .1)
 
-total-requires : tie.Need-total-requires
-total-requires c κs = let h : length (c .before .before .numbers .result .v) ≡ 14 = search needs in omega arith
+slice-aggregate-put-numbers : tie.Need-slice-aggregate-put-numbers
+slice-aggregate-put-numbers c =
+    let g = c .before .before .before in
+    let all : length (g .gathered-of .result .v) ≡ mostNumbers = search needs in
+    sym (length-take (g .gathered-of .result .n) (g .gathered-of .result .v) ∙ omega (arith, g .gathered-of .ensures .1))
 
-returns : tie.Need-returns
-returns c = no-room _ _ _ (omega arith)
-
-sub-if2 : tie.Need-sub-if2
-sub-if2 c = search needs
-
-returns-2 : tie.Need-returns-2
-returns-2 c =
-    let s = c .before .before .before .before .before .before .before in
-    let e : length (recordOf (callOf (s .args .kind) (s .args .event))) ≡ c .before .before .total .result = ap length (record-is (c .before .before .before .before .before)) ∙ sym (c .before .before .total .ensures) in
-    no-room _ _ _ (omega arith)
-
-slice-aggregate-put-all : tie.Need-slice-aggregate-put-all
-slice-aggregate-put-all c = search needs
-
-put-all-requires : tie.Need-put-all-requires
-put-all-requires c κs = let h : length (c .before .before .before .before .before .before .before .numbers .result .v) ≡ 14 = search needs in (omega arith, omega arith)
+put-numbers-requires : tie.Need-put-numbers-requires
+put-numbers-requires c κs = search needs
 
 same-length : tie.Need-same-length
 same-length c = search needs
 
-returns-3 : tie.Need-returns-3
-returns-3 c =
-    let s = c .before .before .before .before .before .before .before .before .before .before .before .before in
-    let e = record-is (c .before .before .before .before .before .before .before .before .before .before) in
-    let f : length (recordOf (callOf (s .args .kind) (s .args .event))) ≡ c .before .before .before .before .before .before .before .total .result = ap length e ∙ sym (c .before .before .before .before .before .before .before .total .ensures) in
-    with-room (s .args .out .now) (s .args .at) (recordOf (callOf (s .args .kind) (s .args .event))) _ _
-    (omega arith)
-    (c .before .before .put-all .ensures .0 ∙ ap (λ (x : List ℕ). s .args .at + length x) (sym e))
-    (c .before .before .put-all .ensures .1 ∙ ap (sets (s .args .out .now) (s .args .at)) (sym e))
+returns : tie.Need-returns
+returns c =
+    let p = c .before .before in
+    let g = p .before .before .before .before in
+    let a = g .before .before .before .args in
+    let e = record-is g in
+    (p .put-numbers .ensures .0 ∙ ap (wroteOf (a .out .now) (a .at)) e, p .put-numbers .ensures .1 ∙ ap (writtenOf (a .out .now) (a .at)) e)
 
 pub put-record-spec : {M : Type 1} → statement M
 put-record-spec =
     tie.close
     (tie.spec
-    numbers-requires
-    slice-aggregate-total
-    total-requires
-    returns
-    sub-if2
-    returns-2
-    slice-aggregate-put-all
-    put-all-requires
+    gathered-of-requires
+    array-share-prefix-v
+    slice-aggregate-put-numbers
+    put-numbers-requires
     same-length
-    returns-3)
+    returns)
