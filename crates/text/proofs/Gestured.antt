@@ -5,11 +5,12 @@ use mathlib.Core.List.{List, [], _∷_}
 use mathlib.Core.Path.{_≡_}
 use Rattle.fingers.specs.declared.gestures.Gesture.{Gesture}
 use Rattle.fingers.specs.declared.gestures.Gesture.the-variants.{Drag, Move, Pinch, PinchEnd}
+use Rattle.panel.specs.Tests.{bit}
 use Rattle.panel.specs.declared.axes.Axis.{Axis}
 use Rattle.panel.specs.declared.points.Point.{Point}
 use Rattle.text.specs.Gestures.{wordsOf, axisWord}
 use Rattle.text.specs.Sizes.{wordsMost}
-use Rattle.text.specs.Words.{ascii, decimal, truth, spaced}
+use Rattle.text.specs.Words.{ascii, decimal, spaced}
 use Rattle.text.specs.code.Written.{Written}
 use Rattle.text.proofs.Writing.{words-then}
 
@@ -41,7 +42,7 @@ pinch-words axis span0 span u v w x =
     (words-then (ascii "Pinch" ∷ axisWord axis ∷ []) (decimal span0 ∷ []) (words-then (ascii "Pinch" ∷ []) (axisWord axis ∷ []) u v) w)
     x
 
-pub pinch-end-words : (released : Bool) (v : ℕ) {l : List ℕ} {at r : ℕ} {l′ : List ℕ} → v ≡ truth released →
+pub pinch-end-words : (released : Bool) (v : ℕ) {l : List ℕ} {at r : ℕ} {l′ : List ℕ} → v ≡ bit released →
     Written l at (spaced (ascii "PinchEnd" ∷ decimal v ∷ [])) r l′ → Written l at (spaced (wordsOf (PinchEnd released))) r l′
 unfolding wordsOf
 pinch-end-words released v e p = rw (← e) p

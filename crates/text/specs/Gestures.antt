@@ -1,32 +1,27 @@
--- The words of each gesture.
+-- The words of each gesture. The names stand here and nowhere else.
 --
 -- "gesture name, its numbers in the Rust's field order (axis H or V, truth 1 or 0)".
 use Prim.Native.Nat.{ℕ}
-use mathlib.Core.List.{List, [], _∷_}
+use mathlib.Core.List.{List, [], _∷_, map}
+use lib.ListN.{getD}
+use Rattle.fingers.specs.Gestures.{placeOf, Field, number, axis, fieldsOf}
 use Rattle.fingers.specs.declared.gestures.Gesture.{Gesture}
-use Rattle.fingers.specs.declared.gestures.Gesture.the-variants.{Down, Tap, LongPress, Drag, Grab, Up, SwipeLeft, SwipeRight, SwipeUp, SwipeDown, Cancel, MultiSwipeDown, KeyDown, KeyUp, Move, Pinch, PinchEnd}
 use Rattle.panel.specs.declared.axes.Axis.{Axis}
-use Rattle.text.specs.Words.{ascii, decimal, letterOf, truth}
+use Rattle.text.specs.Words.{ascii, decimal, letterOf}
+
+-- by the place in the table of gestures
+abbrev pub names : List (List ℕ)
+names =
+    ascii "Down" ∷ ascii "Tap" ∷ ascii "LongPress" ∷ ascii "Drag" ∷ ascii "Grab" ∷ ascii "Up"
+    ∷ ascii "SwipeLeft" ∷ ascii "SwipeRight" ∷ ascii "SwipeUp" ∷ ascii "SwipeDown" ∷ ascii "Cancel"
+    ∷ ascii "MultiSwipeDown" ∷ ascii "KeyDown" ∷ ascii "KeyUp" ∷ ascii "Move" ∷ ascii "Pinch" ∷ ascii "PinchEnd" ∷ []
 
 abbrev pub axisWord : Axis → List ℕ
 axisWord a = letterOf a ∷ []
 
+abbrev pub fieldWord : Field → List ℕ
+fieldWord (number n) = decimal n
+fieldWord (axis a) = axisWord a
+
 unfoldable pub wordsOf : Gesture → List (List ℕ)
-wordsOf (Down p) = ascii "Down" ∷ decimal (p .x) ∷ decimal (p .y) ∷ []
-wordsOf (Tap p) = ascii "Tap" ∷ decimal (p .x) ∷ decimal (p .y) ∷ []
-wordsOf (LongPress p) = ascii "LongPress" ∷ decimal (p .x) ∷ decimal (p .y) ∷ []
-wordsOf (Drag start p axis) =
-    ascii "Drag" ∷ decimal (start .x) ∷ decimal (start .y) ∷ decimal (p .x) ∷ decimal (p .y) ∷ axisWord axis ∷ []
-wordsOf (Grab p) = ascii "Grab" ∷ decimal (p .x) ∷ decimal (p .y) ∷ []
-wordsOf (Up p) = ascii "Up" ∷ decimal (p .x) ∷ decimal (p .y) ∷ []
-wordsOf SwipeLeft = ascii "SwipeLeft" ∷ []
-wordsOf SwipeRight = ascii "SwipeRight" ∷ []
-wordsOf SwipeUp = ascii "SwipeUp" ∷ []
-wordsOf SwipeDown = ascii "SwipeDown" ∷ []
-wordsOf Cancel = ascii "Cancel" ∷ []
-wordsOf (MultiSwipeDown n) = ascii "MultiSwipeDown" ∷ decimal n ∷ []
-wordsOf (KeyDown key) = ascii "KeyDown" ∷ decimal key ∷ []
-wordsOf (KeyUp key) = ascii "KeyUp" ∷ decimal key ∷ []
-wordsOf (Move prev p) = ascii "Move" ∷ decimal (prev .x) ∷ decimal (prev .y) ∷ decimal (p .x) ∷ decimal (p .y) ∷ []
-wordsOf (Pinch axis span0 span) = ascii "Pinch" ∷ axisWord axis ∷ decimal span0 ∷ decimal span ∷ []
-wordsOf (PinchEnd released) = ascii "PinchEnd" ∷ decimal (truth released) ∷ []
+wordsOf g = getD names (placeOf g) [] ∷ map fieldWord (fieldsOf g)

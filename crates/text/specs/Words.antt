@@ -4,7 +4,6 @@
 use Prim.Native.Nat.{ℕ, zero, suc, _+_, _/_, _%_}
 use Prim.Native.Char.{code}
 use Prim.Native.String.{String, [] as nil, _∷_ as _then_}
-use mathlib.Core.Bool.{Bool}
 use mathlib.Core.List.{List, [], _∷_, _++_}
 use Rattle.panel.specs.Tests.{if_then_else_, _<?_}
 use Rattle.panel.specs.declared.axes.Axis.{Axis}
@@ -44,10 +43,6 @@ decimal v = digitsBy mostDigits v
 unfoldable pub letterOf : Axis → ℕ
 letterOf H = 72
 letterOf «V» = 86
-
--- "truth 1 or 0"
-unfoldable pub truth : Bool → ℕ
-truth b = if b then 1 else 0
 
 -- A line: words with single spaces between them.
 

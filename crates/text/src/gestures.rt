@@ -5,7 +5,7 @@ ghost use Prim.Native.Nat.{_+_, _≤_, _<_};
 ghost use lib.ListN.{length};
 ghost use Rattle.text.specs.Gestures.{wordsOf};
 ghost use Rattle.text.specs.Sizes.{smallEnd, nameMost, pointNameMost, wordsMost};
-ghost use Rattle.text.specs.Words.{decimal, truth, spaced};
+ghost use Rattle.text.specs.Words.{decimal, spaced};
 ghost use Rattle.text.specs.code.Written.{Written};
 ghost use Rattle.fingers.specs.declared.gestures.Gesture.the-variants.{Drag, Move, Pinch};
 use crate::words;
@@ -63,15 +63,6 @@ fn pinch(out: &mut [u8], at: usize, axis: Axis, span0: u16, span: u16) -> usize
     words::value(out, c, span as u64)
 }
 
-fn bit(b: bool) -> u64
-    ensures { λ r. ⌜ (r ≡ truth b) × (r < smallEnd) ⌝ }
-{
-    if b {
-        return 1;
-    }
-    0
-}
-
 pub(crate) fn gesture_words(out: &mut [u8], at: usize, g: Gesture) -> usize
     requires { ⌜ at + wordsMost ≤ length (now out) ⌝ }
     ensures { λ r. ⌜ Written (now (out .entry)) at (spaced (wordsOf g)) r (now (out .exit)) ⌝ }
@@ -94,6 +85,6 @@ pub(crate) fn gesture_words(out: &mut [u8], at: usize, g: Gesture) -> usize
         Gesture::KeyUp(key) => with_number(out, at, b"KeyUp", key as u64),
         Gesture::Move(prev, p) => moved(out, at, prev, p),
         Gesture::Pinch(axis, span0, span) => pinch(out, at, axis, span0, span),
-        Gesture::PinchEnd(released) => with_number(out, at, b"PinchEnd", bit(released)),
+        Gesture::PinchEnd(released) => with_number(out, at, b"PinchEnd", panel::bit(released) as u64),
     }
 }

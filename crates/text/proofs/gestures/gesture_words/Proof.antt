@@ -160,6 +160,9 @@ slice-aggregate-with-number-4 c = search needs
 bit-requires : tie.Need-bit-requires
 bit-requires c κs = search needs
 
+cast-with-number-4 : tie.Need-cast-with-number-4
+cast-with-number-4 c = search needs
+
 with-number-requires-4 : tie.Need-with-number-requires-4
 with-number-requires-4 c κs = search needs
 
@@ -280,7 +283,7 @@ same-length-17 c = search needs
 
 returns-17 : tie.Need-returns-17
 unfolding wordsOf ascii
-returns-17 c = gave (c .before .before .before .before .before .before .before .before .before .before .args .g) _ (c .before .before .before .before .before .before .before .g12 .given .1) (pinch-end-words _ _ (c .before .before .before .bit .ensures .0) (c .before .before .with-number4 .ensures .0), c .before .before .with-number4 .ensures .1)
+returns-17 c = gave (c .before .before .before .before .before .before .before .before .before .before .args .g) _ (c .before .before .before .before .before .before .before .g12 .given .1) (pinch-end-words _ _ (c .before .before .before .bit .ensures) (c .before .before .with-number4 .ensures .0), c .before .before .with-number4 .ensures .1)
 
 pub gesture-words-spec : {M : Type 1} → statement M
 gesture-words-spec =
@@ -337,6 +340,7 @@ gesture-words-spec =
     enum-known-g-12
     slice-aggregate-with-number-4
     bit-requires
+    cast-with-number-4
     with-number-requires-4
     same-length
     returns
