@@ -1,7 +1,7 @@
 -- The text in document 01's numbers: what `play` tells for every trace and every room, that it alters nothing where it
 -- refuses and no other byte where it writes, which reports are refused and with what number, and that a contract leaves
 -- no second answer. Assumes nothing.
-use Prim.Native.Nat.{ℕ, _+_, _≤_}
+use Prim.Native.Nat.{ℕ, _≤_}
 use mathlib.Core.Bool.{true, false}
 use mathlib.Core.List.{List, [], _∷_, _++_, map}
 use mathlib.Core.Path.{_≡_, refl, sym, ap, _∙_}

@@ -22,7 +22,6 @@ use Rattle.text.specs.Played.{roomFor, playedOf, leftOf}
 use Rattle.text.specs.Sizes.{lineMost}
 use Rattle.text.specs.Texts.{answerLine, linesFrom, stopLine, endLine, lastLine, printed, textOf}
 use Rattle.text.specs.code.Written.{Written}
-use Rattle.text.specs.declared.playing.Played.{Played}
 use Rattle.text.specs.declared.playing.Played.the-variants.{Wrote, Refused}
 use Rattle.text.proofs.Digits.{by-lt}
 use Rattle.text.proofs.Lined.{Lined}
@@ -31,7 +30,6 @@ use Rattle.trace.proofs.Promises.{file-tells}
 use Rattle.trace.specs.Records.{recordAt}
 use Rattle.trace.specs.Sizes.{mostBytes}
 use Rattle.trace.specs.Traces.{ends, Traced, followed, stoppedAt, andOn, recordsFrom, headOf, traceIn}
-use Rattle.numbers.specs.declared.reading.Cursor.{Cursor}
 use Rattle.numbers.specs.declared.reading.Cursor.the-variants.{At, Stop}
 use Rattle.gesture.specs.declared.making.CallKind.{CallKind}
 use Rattle.trace.specs.declared.records.ReadAnswer.{ReadAnswer}

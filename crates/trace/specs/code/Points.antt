@@ -1,7 +1,7 @@
 -- A report is read point by point into an array of zeros: one point, and the report made of points that are filled up
 -- already.
 use Prim.Native.Nat.{ℕ}
-use mathlib.Core.List.{List, [], _∷_}
+use mathlib.Core.List.{List}
 use lib.ListN.{getD}
 use Rattle.panel.specs.Tests.{if_then_else_, _=?_}
 use Rattle.panel.specs.declared.points.Event.{Event}
