@@ -1,7 +1,7 @@
 // A call as one value, and the one function that makes it on a tracker. Whatever makes calls that it was handed (a
 // trace, the host, a run of cases) comes through here.
 ghost use mathlib.Core.Path.{_≡_};
-ghost use Rattle.gesture.specs.Calls.{answerOf, callBy, callOf};
+ghost use Rattle.gesture.specs.Calls.{answerOf, callOf};
 use crate::answers::Answer;
 use crate::calls;
 use crate::record::Tracker;
@@ -25,24 +25,21 @@ pub struct Call {
     pub event: Event,
 }
 
-fn answer_by(t: Tracker, kind: CallKind, event: Event) -> Answer
-    ensures { λ r. ⌜ r ≡ answerOf t (callBy kind event) ⌝ }
+// Makes a call on a tracker. The report is fetched in its arm, where alone it is read: handed on before the match it is
+// copied for every call.
+pub fn make(t: Tracker, c: Call) -> Answer
+    ensures { λ r. ⌜ r ≡ answerOf t (callOf c) ⌝ }
 {
+    let kind = c.kind;
     match kind {
-        CallKind::Report(now) => calls::event(t, event, now),
+        CallKind::Report(now) => {
+            let event = c.event;
+            calls::event(t, event, now)
+        }
         CallKind::Tick(now) => calls::tick(t, now),
         CallKind::Capture => calls::capture(t),
         CallKind::CaptureDirect => calls::capture_direct(t),
         CallKind::RawNext(on) => calls::raw_next(t, on),
         CallKind::SetGrabMs(ms) => calls::set_grab_ms(t, ms),
     }
-}
-
-// Makes a call on a tracker.
-pub fn make(t: Tracker, c: Call) -> Answer
-    ensures { λ r. ⌜ r ≡ answerOf t (callOf c) ⌝ }
-{
-    let kind = c.kind;
-    let event = c.event;
-    answer_by(t, kind, event)
 }

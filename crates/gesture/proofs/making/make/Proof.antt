@@ -1,8 +1,8 @@
--- `gesture::making::answer_by` meets its contract. Assumes nothing.
+-- `gesture::making::make` meets its contract. Assumes nothing.
 use Rattle.gesture.proofs.CallLaw.{answers-as}
 use borrow.Author.Needs.{needs}
-use Rattle.gesture.proofs.making.answer_by.Statement.{statement}
-use Rattle.gesture.proofs.making.answer_by.Tie as tie
+use Rattle.gesture.proofs.making.make.Statement.{statement}
+use Rattle.gesture.proofs.making.make.Tie as tie
 
 enum-known-kind : tie.Need-enum-known-kind
 enum-known-kind c = search needs
@@ -41,25 +41,43 @@ set-grab-ms-requires : tie.Need-set-grab-ms-requires
 set-grab-ms-requires c κs = search needs
 
 returns : tie.Need-returns
-returns c = answers-as (c .before .before .before .before .args .t) (c .before .before .before .before .args .event) (c .before .before .before .before .args .kind) _ _ (c .before .before .kind .given .1) (c .event .ensures)
+returns c =
+    let found = c .before .before .before in
+    let start = found .before .before in
+    answers-as (start .args .t) (start .args .c) _ _ (found .kind .given .1) (c .event2 .ensures)
 
 returns-2 : tie.Need-returns-2
-returns-2 c = answers-as (c .before .before .before .before .args .t) (c .before .before .before .before .args .event) (c .before .before .before .before .args .kind) _ _ (c .before .before .kind2 .given .1) (c .tick .ensures)
+returns-2 c =
+    let found = c .before .before in
+    let start = found .before .before in
+    answers-as (start .args .t) (start .args .c) _ _ (found .kind2 .given .1) (c .tick .ensures)
 
 returns-3 : tie.Need-returns-3
-returns-3 c = answers-as (c .before .before .before .args .t) (c .before .before .before .args .event) (c .before .before .before .args .kind) _ _ (c .before .enum-told .given .1) (c .capture .ensures)
+returns-3 c =
+    let found = c .before in
+    let start = found .before .before in
+    answers-as (start .args .t) (start .args .c) _ _ (found .enum-told .given .1) (c .capture .ensures)
 
 returns-4 : tie.Need-returns-4
-returns-4 c = answers-as (c .before .before .before .args .t) (c .before .before .before .args .event) (c .before .before .before .args .kind) _ _ (c .before .enum-told2 .given .1) (c .capture-direct .ensures)
+returns-4 c =
+    let found = c .before in
+    let start = found .before .before in
+    answers-as (start .args .t) (start .args .c) _ _ (found .enum-told2 .given .1) (c .capture-direct .ensures)
 
 returns-5 : tie.Need-returns-5
-returns-5 c = answers-as (c .before .before .before .before .args .t) (c .before .before .before .before .args .event) (c .before .before .before .before .args .kind) _ _ (c .before .before .kind3 .given .1) (c .raw-next .ensures)
+returns-5 c =
+    let found = c .before .before in
+    let start = found .before .before in
+    answers-as (start .args .t) (start .args .c) _ _ (found .kind3 .given .1) (c .raw-next .ensures)
 
 returns-6 : tie.Need-returns-6
-returns-6 c = answers-as (c .before .before .before .before .args .t) (c .before .before .before .before .args .event) (c .before .before .before .before .args .kind) _ _ (c .before .before .kind4 .given .1) (c .set-grab-ms .ensures)
+returns-6 c =
+    let found = c .before .before in
+    let start = found .before .before in
+    answers-as (start .args .t) (start .args .c) _ _ (found .kind4 .given .1) (c .set-grab-ms .ensures)
 
-pub answer-by-spec : {M : Type 1} → statement M
-answer-by-spec =
+pub make-spec : {M : Type 1} → statement M
+make-spec =
     tie.close
     (tie.spec
     enum-known-kind
