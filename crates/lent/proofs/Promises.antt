@@ -14,36 +14,36 @@ use Rattle.gesture.specs.declared.lines.Log.the-variants.{Silent}
 use Rattle.gesture.specs.declared.answers.Given.the-variants.{Nothing}
 use Rattle.gesture.specs.declared.answers.Answer.{Answer}
 use Rattle.gesture.proofs.Promises as by-value
-use Rattle.lent.specs.Lent.{toldBy, grabToldBy, TellsAndLeaves}
+use Rattle.lent.specs.Lent.{responseOf, grabResponseOf, TellsAndLeaves}
 use Rattle.lent.specs.Runs.{LentRun, toldOf}
-use Rattle.lent.specs.declared.told.Told.{Told}
-use Rattle.lent.specs.declared.told.GrabTold.{GrabTold}
+use Rattle.lent.specs.declared.responses.Response.{Response}
+use Rattle.lent.specs.declared.responses.GrabResponse.{GrabResponse}
 
 -- what is told of an answer, field by field
 
-pub told-refusal : (a : Answer) → toldBy a .refusal ≡ a .refusal
-unfolding toldBy
+pub told-refusal : (a : Answer) → responseOf a .refusal ≡ a .refusal
+unfolding responseOf
 told-refusal a = refl
 
-pub told-gesture : (a : Answer) → toldBy a .gesture ≡ a .gesture
-unfolding toldBy
+pub told-gesture : (a : Answer) → responseOf a .gesture ≡ a .gesture
+unfolding responseOf
 told-gesture a = refl
 
-pub told-log : (a : Answer) → toldBy a .log ≡ a .log
-unfolding toldBy
+pub told-log : (a : Answer) → responseOf a .log ≡ a .log
+unfolding responseOf
 told-log a = refl
 
 -- "A refusal carries no other value (zeros, no gesture, no log line) and alters nothing."
 
-abbrev Unaltered : Tracker → Told → Tracker → Type 0
+abbrev Unaltered : Tracker → Response → Tracker → Type 0
 Unaltered t told left = (told .refusal ≡ 0 → ⊥) → (told .gesture ≡ Nothing) × (told .log ≡ Silent) × (left ≡ t)
 
-carried : {t : Tracker} (a : Answer) → ((a .refusal ≡ 0 → ⊥) → (a .gesture ≡ Nothing) × (a .log ≡ Silent) × (a .tracker ≡ t)) → (told : Told) (left : Tracker) → TellsAndLeaves a told left → Unaltered t told left
+carried : {t : Tracker} (a : Answer) → ((a .refusal ≡ 0 → ⊥) → (a .gesture ≡ Nothing) × (a .log ≡ Silent) × (a .tracker ≡ t)) → (told : Response) (left : Tracker) → TellsAndLeaves a told left → Unaltered t told left
 carried a by-value told left (is, stays) refused =
     let b = by-value (λ z. refused ((λ i. is i .refusal) ∙ told-refusal a ∙ z)) in
     ((λ i. is i .gesture) ∙ told-gesture a ∙ b .0, (λ i. is i .log) ∙ told-log a ∙ b .1, stays ∙ b .2)
 
-module _ (t : Tracker) (told : Told) (left : Tracker) where
+module _ (t : Tracker) (told : Response) (left : Tracker) where
   pub event-refused : (ev : Event) (time : ℕ) → TellsAndLeaves (eventOf t ev time) told left → Unaltered t told left
   event-refused ev time = carried (eventOf t ev time) (by-value.event-refused t ev time) told left
 
@@ -63,8 +63,8 @@ module _ (t : Tracker) (told : Told) (left : Tracker) where
   set-grab-refused ms = carried (setGrabOf t ms) (by-value.set-grab-refused t ms) told left
 
 -- `grab_ms` only looks at the tracker
-pub grab-refused : (t : Tracker) (r : GrabTold) → r ≡ grabToldBy (grabOf t) → (r .told .refusal ≡ 0 → ⊥) → (r .ms ≡ 0) × (r .told .gesture ≡ Nothing) × (r .told .log ≡ Silent)
-unfolding grabToldBy
+pub grab-refused : (t : Tracker) (r : GrabResponse) → r ≡ grabResponseOf (grabOf t) → (r .told .refusal ≡ 0 → ⊥) → (r .ms ≡ 0) × (r .told .gesture ≡ Nothing) × (r .told .log ≡ Silent)
+unfolding grabResponseOf
 grab-refused t r is refused =
     let a = grabOf t .answer in
     let b = by-value.grab-refused t (λ z. refused ((λ i. is i .told .refusal) ∙ told-refusal a ∙ z)) in
@@ -72,10 +72,10 @@ grab-refused t r is refused =
 
 -- Each contract determines what is told and the tracker that is left.
 
-one-way : (a : Answer) {r s : Told} {u w : Tracker} → TellsAndLeaves a r u → TellsAndLeaves a s w → (r ≡ s) × (u ≡ w)
+one-way : (a : Answer) {r s : Response} {u w : Tracker} → TellsAndLeaves a r u → TellsAndLeaves a s w → (r ≡ s) × (u ≡ w)
 one-way a (told, left) (told′, left′) = (one-answer told told′, one-answer left left′)
 
-module _ (t : Tracker) {r s : Told} {u w : Tracker} where
+module _ (t : Tracker) {r s : Response} {u w : Tracker} where
   pub event-unique : (ev : Event) (time : ℕ) → TellsAndLeaves (eventOf t ev time) r u → TellsAndLeaves (eventOf t ev time) s w → (r ≡ s) × (u ≡ w)
   event-unique ev time = one-way (eventOf t ev time)
 
@@ -94,12 +94,12 @@ module _ (t : Tracker) {r s : Told} {u w : Tracker} where
   pub set-grab-unique : (ms : ℕ) → TellsAndLeaves (setGrabOf t ms) r u → TellsAndLeaves (setGrabOf t ms) s w → (r ≡ s) × (u ≡ w)
   set-grab-unique ms = one-way (setGrabOf t ms)
 
-pub grab-unique : (t : Tracker) {r s : GrabTold} → r ≡ grabToldBy (grabOf t) → s ≡ grabToldBy (grabOf t) → r ≡ s
+pub grab-unique : (t : Tracker) {r s : GrabResponse} → r ≡ grabResponseOf (grabOf t) → s ≡ grabResponseOf (grabOf t) → r ≡ s
 grab-unique t = one-answer
 
 -- A run on a lent tracker is the run by value.
 
-pub run-by-value : (cs : List Call) (t : Tracker) (tolds : List Told) (last : Tracker) → LentRun t cs tolds last → (tolds ≡ toldOf t cs) × (last ≡ after t cs)
+pub run-by-value : (cs : List Call) (t : Tracker) (tolds : List Response) (last : Tracker) → LentRun t cs tolds last → (tolds ≡ toldOf t cs) × (last ≡ after t cs)
 unfolding run after
 run-by-value [] t tolds last ran = ran
 run-by-value (c ∷ cs) t tolds last (told, left, rest, is, (tells, leaves), ran) =

@@ -1,5 +1,5 @@
 -- The records that the walks of the lent calls pass on: their machine values, what whoever holds an answer knows of its
--- tracker, and the contract of `told_by`, which ends each of them. The machine values are shut, so that no step of a walk
+-- tracker, and the contract of `response_of`, which ends each of them. The machine values are shut, so that no step of a walk
 -- computes them: what a walk needs of them are the laws here. Assumes nothing.
 use mathlib.Core.Path.{_≡_, refl, subst}
 use Prim.Native.Nat.{ℕ, zero}
@@ -33,9 +33,9 @@ use Rattle.gesture.proofs.lines.Log as L
 use Rattle.gesture.proofs.lines.Log.Laws as L′
 use Rattle.gesture.proofs.answers.Answer as S
 use Rattle.gesture.proofs.answers.Answer.Laws as S′
-use Rattle.lent.specs.Lent.{toldBy}
-use Rattle.lent.specs.declared.told.Told.{Told}
-use Rattle.lent.proofs.told.told_by as told-by
+use Rattle.lent.specs.Lent.{responseOf}
+use Rattle.lent.specs.declared.responses.Response.{Response}
+use Rattle.lent.proofs.responses.response_of as response-of
 
 pub mach : Tracker → Val
 mach t = LL.tuple-val T.the-type T′.the-laws (T.the-type .to t)
@@ -104,16 +104,16 @@ tracker-field = refl
 pub tracker-place : fieldOf S′.mir 3 ≡ some (T′.mir, tracker-at)
 tracker-place = refl
 
--- the contract of `told_by`
+-- the contract of `response_of`
 module _ {M : Type 1} (𝓤 : URA M) (H : Heap 𝓤) (A : Atoms 𝓤) where
-  abbrev pub telling : Clauses 𝓤 told-by.ended
-  telling κs args = record { ghost = Unit {0}; requires = λ _. emp 𝓤; ensures = λ _ r _. fact 𝓤 (r ≡ toldBy (args .0)) }
+  abbrev pub telling : Clauses 𝓤 response-of.ended
+  telling κs args = record { ghost = Unit {0}; requires = λ _. emp 𝓤; ensures = λ _ r _. fact 𝓤 (r ≡ responseOf (args .0)) }
 
   abbrev pub Telling : Contract 𝓤
-  Telling = tripleOf 𝓤 H A told-by.signature (closing 𝓤 H A told-by.ended telling)
+  Telling = tripleOf 𝓤 H A response-of.signature (closing 𝓤 H A response-of.ended telling)
 
-  pub told-of : (a : Answer) (r : Told) → ent 𝓤 (ensured 𝓤 H A told-by.ended telling tt (a, tt) tt r) (fact 𝓤 (r ≡ toldBy a))
-  told-of a r = exE 𝓤 _ (λ ws. snd∗ 𝓤 (sem 𝓤 H A (lasts told-by.ended tt (a, tt) ws)) (fact 𝓤 (r ≡ toldBy a)))
+  pub told-of : (a : Answer) (r : Response) → ent 𝓤 (ensured 𝓤 H A response-of.ended telling tt (a, tt) tt r) (fact 𝓤 (r ≡ responseOf a))
+  told-of a r = exE 𝓤 _ (λ ws. snd∗ 𝓤 (sem 𝓤 H A (lasts response-of.ended tt (a, tt) ws)) (fact 𝓤 (r ≡ responseOf a)))
 
   abbrev pub to-told : Answer → Telling .Ghost
   to-told a = ((tt, tt, tt, (a, tt), (machS a ∷ [], tt)), tt)

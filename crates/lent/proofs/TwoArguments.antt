@@ -1,6 +1,6 @@
 -- The call that takes a lent tracker and two arguments beside it: `event`.
 -- A walk of its code, by hand, whatever the by-value call answers: the borrow is opened, the record is copied out whole and
--- passed on, the answer's tracker is stored whole, `told_by` takes the rest, and the borrow is closed at the new record. Nothing
+-- passed on, the answer's tracker is stored whole, `response_of` takes the rest, and the borrow is closed at the new record. Nothing
 -- in it depends on the record's fields. Assumes nothing.
 use mathlib.Core.Path.{_≡_, refl, ap, _∙_}
 use Prim.Native.Nat.{ℕ}
@@ -41,14 +41,14 @@ use Rattle.gesture.proofs.record.Tracker as T
 use Rattle.gesture.proofs.record.Tracker.Laws as T′
 use Rattle.gesture.proofs.answers.Answer as S
 use Rattle.gesture.proofs.answers.Answer.Laws as S′
-use Rattle.lent.specs.Lent.{toldBy, TellsAndLeaves}
-use Rattle.lent.specs.declared.told.Told.{Told}
+use Rattle.lent.specs.Lent.{responseOf, TellsAndLeaves}
+use Rattle.lent.specs.declared.responses.Response.{Response}
 use Rattle.lent.proofs.Records.{tracker-named, tracker-at, fieldsIn, tracker-field, tracker-place, mach, tells, tellsS, spelled, of-tracker, telling, Telling, told-of, to-told, goes-told}
 use Rattle.lent.proofs.Arguments.{Argument}
-use Rattle.lent.proofs.told.Told as N
-use Rattle.lent.proofs.told.Told.Laws as N′
-use Rattle.lent.proofs.told.told_by as told-by
-use Rattle.lent.proofs.told.told_by.Symbol.{name as #told}
+use Rattle.lent.proofs.responses.Response as N
+use Rattle.lent.proofs.responses.Response.Laws as N′
+use Rattle.lent.proofs.responses.response_of as response-of
+use Rattle.lent.proofs.responses.response_of.Symbol.{name as #told}
 
 module _ (P : Argument) (Q : Argument) where
   -- the code, but for the by-value call
@@ -114,11 +114,11 @@ module _ (P : Argument) (Q : Argument) where
       abbrev Post : Val → SProp 𝓤
       Post = walkOf 𝓤 H A lent stayed (lending 𝓤) .post (((κ, tt), (q, tt), tt, x, at), tt)
 
-      exits : (a : Answer) (r : Told) (u : Val) → a ≡ answer h y z → r ≡ toldBy a
+      exits : (a : Answer) (r : Response) (u : Val) → a ≡ answer h y z → r ≡ responseOf a
           → ent 𝓤 (⋆ 𝓤 H A (‵ (fobs γ (T.the-row .coded .code (a .tracker))) ∷ ‵ (fbor κ (Body (mem T.the-row) b o γ)) ∷ ‵ (flft κ q) ∷ ‵ (N.the-row .own r (u ∷ [])) ∷ ‵ (owns (P .row ∷ Q .row ∷ []) (y, (z, tt)) (P .val y ∷ [], (Q .val z ∷ [], tt))) ∷ [])) (Post u)
       exits a r u e told =
           qed W (‵ (fobs γ (T.the-row .coded .code (a .tracker))) ∷ ‵ (fbor κ (Body (mem T.the-row) b o γ)) ∷ ‵ (flft κ q) ∷ ‵ (N.the-row .own r (u ∷ [])) ∷ ‵ (owns (P .row ∷ Q .row ∷ []) (y, (z, tt)) (P .val y ∷ [], (Q .val z ∷ [], tt))) ∷ []) ∵
-          suffices ! _ (ends-at 𝓤 H A lent stayed (lending 𝓤) W (((κ, tt), (q, tt), tt, x, at), tt) u r (a .tracker, (P .last y, (Q .last z, tt))) (tt, (tt, (tt, tt)))) $ says ! (told ∙ ap toldBy e, λ i. e i .tracker) $
+          suffices ! _ (ends-at 𝓤 H A lent stayed (lending 𝓤) W (((κ, tt), (q, tt), tt, x, at), tt) u r (a .tracker, (P .last y, (Q .last z, tt))) (tt, (tt, (tt, tt)))) $ says ! (told ∙ ap responseOf e, λ i. e i .tracker) $
           nothing ! $ move ! (3 ∷ 0 ∷ []) $ join ! $ frame ! $ feqI ! (List Val) (vptr b o ∷ []) (vptr b o ∷ []) refl $ fjoin3 ! $ move ! (0 ∷ 2 ∷ []) $ fjoin ! $ done !
 
       abbrev to-step : Stepping 𝓤 H A .Ghost
@@ -149,11 +149,11 @@ module _ (P : Argument) (Q : Argument) where
             (store-raw ! 0 {τ = T′.mir} refl (LL.lawful T.the-type T′.the-laws 𝓤 H A W .typed (a .tracker) _ (of-tracker a v is) .0)) $
             owned ! S.the-row (Is S.the-row) (LL.makes S.the-type S′.the-plain 𝓤 H A) a _ (spelled a v is) $ use1 W (raw (Telling 𝓤 H A .pre (to-told 𝓤 H A a))) (goes-told 𝓤 H A W a) $
             calls-at ! fm (Telling 𝓤 H A) known′ (to-told 𝓤 H A a) (and-then ! (load ! (from ! (stop !)) (look ! 10 refl)) (no-more !)) (λ u.
-            use1 W (later (some (λ (r : Told). (‵ ftrue ⊛ ‵ (N.the-row .own r (u ∷ []))) ⊛ raw (ensured 𝓤 H A told-by.ended (telling 𝓤 H A) tt (a, tt) tt r)))) (id⊢ 𝓤 _) $ await ! tt $ pick ! (λ r.
-            split ! $ move ! (1 ∷ []) $ use1 W (raw (fact 𝓤 (r ≡ toldBy a))) (told-of 𝓤 H A a r) $ heard ! (r ≡ toldBy a) (λ told. split ! $ drop ! $
+            use1 W (later (some (λ (r : Response). (‵ ftrue ⊛ ‵ (N.the-row .own r (u ∷ []))) ⊛ raw (ensured 𝓤 H A response-of.ended (telling 𝓤 H A) tt (a, tt) tt r)))) (id⊢ 𝓤 _) $ await ! tt $ pick ! (λ r.
+            split ! $ move ! (1 ∷ []) $ use1 W (raw (fact 𝓤 (r ≡ responseOf a))) (told-of 𝓤 H A a r) $ heard ! (r ≡ responseOf a) (λ told. split ! $ drop ! $
             peeks ! N.the-row (Is N.the-row) (shows 𝓤 H A N.the-row) r (u ∷ []) (λ tis.
             land ! (from ! (stop !)) (init ! 18 {τ = N′.mir} refl (LL.lawful N.the-type N′.the-laws 𝓤 H A W .typed r _ tis .0)) $
-            -- [what the Told owns; the record's cell; what the old Tracker owns; the open borrow; obs; auth; …]
+            -- [what the Response owns; the record's cell; what the old Tracker owns; the open borrow; obs; auth; …]
             move ! (2 ∷ []) $ drop ! $ owned ! T.the-row (Is T.the-row) (LL.makes T.the-type T′.the-plain 𝓤 H A) (a .tracker) _ (of-tracker a v is) $
             move ! (2 ∷ 0 ∷ 3 ∷ 4 ∷ 5 ∷ []) $ closes ! tt T.the-row (a .tracker) (mach (a .tracker) ∷ []) b o $
             returns ! (look ! 16 {τ = N′.mir} refl) $ forget ! 6 refl $ forget ! 8 refl $ forget ! 10 refl $ forget ! 12 refl $ forget ! 14 refl $ forget ! 16 refl $

@@ -6,16 +6,16 @@ use mathlib.Core.Path.{_≡_}
 use Rattle.gesture.specs.declared.record.Tracker.{Tracker}
 use Rattle.gesture.specs.declared.answers.Answer.{Answer}
 use Rattle.gesture.specs.declared.answers.GrabAnswer.{GrabAnswer}
-use Rattle.lent.specs.declared.told.Told.{Told}
-use Rattle.lent.specs.declared.told.GrabTold.{GrabTold}
+use Rattle.lent.specs.declared.responses.Response.{Response}
+use Rattle.lent.specs.declared.responses.GrabResponse.{GrabResponse}
 
 -- an answer without its tracker
-unfoldable pub toldBy : Answer → Told
-toldBy a = record { refusal = a .refusal; gesture = a .gesture; log = a .log }
+unfoldable pub responseOf : Answer → Response
+responseOf a = record { refusal = a .refusal; gesture = a .gesture; log = a .log }
 
-unfoldable pub grabToldBy : GrabAnswer → GrabTold
-grabToldBy g = record { ms = g .ms; told = toldBy (g .answer) }
+unfoldable pub grabResponseOf : GrabAnswer → GrabResponse
+grabResponseOf g = record { ms = g .ms; told = responseOf (g .answer) }
 
 -- what every contract of this crate says of an answer by value: the one is told, the other left
-abbrev pub TellsAndLeaves : Answer → Told → Tracker → Type 0
-TellsAndLeaves a told left = (told ≡ toldBy a) × (left ≡ a .tracker)
+abbrev pub TellsAndLeaves : Answer → Response → Tracker → Type 0
+TellsAndLeaves a told left = (told ≡ responseOf a) × (left ≡ a .tracker)

@@ -1,5 +1,5 @@
 -- `lent::calls::grab_ms` meets its contract. Assumes nothing.
--- A walk of its code, by hand: the tracker is looked into and copied out whole, `gesture::grab_ms` and `grab_told_by` do the
+-- A walk of its code, by hand: the tracker is looked into and copied out whole, `gesture::grab_ms` and `grab_response_of` do the
 -- rest. The reference is shared, so nothing is stored behind it.
 use mathlib.Core.Path.{_≡_, refl, ap, _∙_}
 use Prim.Native.Nat.{ℕ}
@@ -44,14 +44,14 @@ use Rattle.gesture.proofs.answers.GrabAnswer.Laws as S′
 use Rattle.gesture.proofs.grab_ms as step
 use Rattle.gesture.proofs.grab_ms.Symbol as step-def
 use Rattle.gesture.proofs.grab_ms.Met as step-thm
-use Rattle.lent.specs.Lent.{grabToldBy}
-use Rattle.lent.specs.declared.told.GrabTold.{GrabTold}
+use Rattle.lent.specs.Lent.{grabResponseOf}
+use Rattle.lent.specs.declared.responses.GrabResponse.{GrabResponse}
 use Rattle.lent.proofs.Records.{tracker-named, mach, tells}
-use Rattle.lent.proofs.told.GrabTold as N
-use Rattle.lent.proofs.told.GrabTold.Laws as N′
-use Rattle.lent.proofs.told.grab_told_by as told-by
-use Rattle.lent.proofs.told.grab_told_by.Symbol as told-def
-use Rattle.lent.proofs.told.grab_told_by.Met as told-thm
+use Rattle.lent.proofs.responses.GrabResponse as N
+use Rattle.lent.proofs.responses.GrabResponse.Laws as N′
+use Rattle.lent.proofs.responses.grab_response_of as response-of
+use Rattle.lent.proofs.responses.grab_response_of.Symbol as told-def
+use Rattle.lent.proofs.responses.grab_response_of.Met as told-thm
 use Rattle.lent.proofs.calls.grab_ms as f
 use Rattle.lent.proofs.calls.grab_ms.Key as key
 use Rattle.lent.proofs.calls.grab_ms.Statement.{statement}
@@ -81,13 +81,13 @@ module _ {M : Type 1} (𝓤 : URA M) (H : Heap 𝓤) (A : Atoms 𝓤) (at-mem : 
   Stepping = tripleOf 𝓤 H A step.signature (step.spec 𝓤 H A at-mem run)
 
   abbrev Telling : Contract 𝓤
-  Telling = tripleOf 𝓤 H A told-by.signature (told-by.spec 𝓤 H A at-mem run)
+  Telling = tripleOf 𝓤 H A response-of.signature (response-of.spec 𝓤 H A at-mem run)
 
   made-of : (h : Tracker) (a : GrabAnswer) → ent 𝓤 (ensured 𝓤 H A step.ended (step.clauses 𝓤 H A at-mem run) tt (h, tt) tt a) (fact 𝓤 (a ≡ grabOf h))
   made-of h a = exE 𝓤 _ (λ ws. snd∗ 𝓤 (sem 𝓤 H A (lasts step.ended tt (h, tt) ws)) (fact 𝓤 (a ≡ grabOf h)))
 
-  told-of : (a : GrabAnswer) (r : GrabTold) → ent 𝓤 (ensured 𝓤 H A told-by.ended (told-by.clauses 𝓤 H A at-mem run) tt (a, tt) tt r) (fact 𝓤 (r ≡ grabToldBy a))
-  told-of a r = exE 𝓤 _ (λ ws. snd∗ 𝓤 (sem 𝓤 H A (lasts told-by.ended tt (a, tt) ws)) (fact 𝓤 (r ≡ grabToldBy a)))
+  told-of : (a : GrabAnswer) (r : GrabResponse) → ent 𝓤 (ensured 𝓤 H A response-of.ended (response-of.clauses 𝓤 H A at-mem run) tt (a, tt) tt r) (fact 𝓤 (r ≡ grabResponseOf a))
+  told-of a r = exE 𝓤 _ (λ ws. snd∗ 𝓤 (sem 𝓤 H A (lasts response-of.ended tt (a, tt) ws)) (fact 𝓤 (r ≡ grabResponseOf a)))
 
 module _ {M : Type 1} (𝓤 : URA M) (H : Heap 𝓤) (A : Atoms 𝓤) (W : Given 𝓤 H A) (at-mem : Memory → SProp 𝓤) (run : Routine → Fun 𝓤) (κ : Lft) (q : Share) (b o : ℕ) (γ : GName) (h : Tracker) where
   abbrev x : Arg
@@ -99,11 +99,11 @@ module _ {M : Type 1} (𝓤 : URA M) (H : Heap 𝓤) (A : Atoms 𝓤) (W : Given
   abbrev Post : Val → SProp 𝓤
   Post = walkOf 𝓤 H A f.ended stayed (f.clauses 𝓤 H A at-mem run) .post (((κ, tt), (q, tt), tt, x, at), tt)
 
-  exits : (a : GrabAnswer) (r : GrabTold) (u : Val) → a ≡ grabOf h → r ≡ grabToldBy a
+  exits : (a : GrabAnswer) (r : GrabResponse) (u : Val) → a ≡ grabOf h → r ≡ grabResponseOf a
       → ent 𝓤 (⋆ 𝓤 H A (‵ (N.the-row .own r (u ∷ [])) ∷ ‵ (flft κ q) ∷ ‵ (fres γ (T.the-row .coded .code h)) ∷ ‵ (fshr-bor κ (λ s. partAt T.the-row s h b o)) ∷ [])) (Post u)
   exits a r u e told =
       qed W (‵ (N.the-row .own r (u ∷ [])) ∷ ‵ (flft κ q) ∷ ‵ (fres γ (T.the-row .coded .code h)) ∷ ‵ (fshr-bor κ (λ s. partAt T.the-row s h b o)) ∷ []) ∵
-      suffices ! _ (ends-at 𝓤 H A f.ended stayed (f.clauses 𝓤 H A at-mem run) W (((κ, tt), (q, tt), tt, x, at), tt) u r (tt, tt) (tt, tt)) $ says ! (told ∙ ap grabToldBy e) $
+      suffices ! _ (ends-at 𝓤 H A f.ended stayed (f.clauses 𝓤 H A at-mem run) W (((κ, tt), (q, tt), tt, x, at), tt) u r (tt, tt) (tt, tt)) $ says ! (told ∙ ap grabResponseOf e) $
       nothing ! $ move ! (2 ∷ 0 ∷ []) $ join ! $ frame ! $ move ! (1 ∷ 2 ∷ []) $ feqI ! (List Val) (vptr b o ∷ []) (vptr b o ∷ []) refl $ fjoin3 ! $ nothing ! $ move ! (1 ∷ 0 ∷ []) $ fjoin ! $ done !
 
   abbrev to-step : Stepping 𝓤 H A at-mem run .Ghost
@@ -138,8 +138,8 @@ module _ {M : Type 1} (𝓤 : URA M) (H : Heap 𝓤) (A : Atoms 𝓤) (W : Given
         -- [what the GrabAnswer owns; κ's token; the fractured borrow; true; res; true; the copy; …]
         use1 W (raw (Telling 𝓤 H A at-mem run .pre (to-told a v))) (goes-told a v) $
         calls-at ! fm (Telling 𝓤 H A at-mem run) known′ (to-told a v) (and-then ! (load ! (from ! (stop !)) (look ! 8 refl)) (no-more !)) (λ u.
-        use1 W (later (some (λ (r : GrabTold). (‵ ftrue ⊛ ‵ (N.the-row .own r (u ∷ []))) ⊛ raw (ensured 𝓤 H A told-by.ended (told-by.clauses 𝓤 H A at-mem run) tt (a, tt) tt r)))) (id⊢ 𝓤 _) $ await ! tt $ pick ! (λ r.
-        split ! $ move ! (1 ∷ []) $ use1 W (raw (fact 𝓤 (r ≡ grabToldBy a))) (told-of 𝓤 H A at-mem run a r) $ heard ! (r ≡ grabToldBy a) (λ told. split ! $ drop ! $
+        use1 W (later (some (λ (r : GrabResponse). (‵ ftrue ⊛ ‵ (N.the-row .own r (u ∷ []))) ⊛ raw (ensured 𝓤 H A response-of.ended (response-of.clauses 𝓤 H A at-mem run) tt (a, tt) tt r)))) (id⊢ 𝓤 _) $ await ! tt $ pick ! (λ r.
+        split ! $ move ! (1 ∷ []) $ use1 W (raw (fact 𝓤 (r ≡ grabResponseOf a))) (told-of 𝓤 H A at-mem run a r) $ heard ! (r ≡ grabResponseOf a) (λ told. split ! $ drop ! $
         peeks ! N.the-row (Is N.the-row) (shows 𝓤 H A N.the-row) r (u ∷ []) (λ tis.
         land ! (from ! (stop !)) (init ! 12 refl (LL.lawful N.the-type N′.the-laws 𝓤 H A W .typed r _ tis .0)) $
         returns ! (look ! 12 refl) $ forget ! 6 refl $ forget ! 8 refl $ forget ! 10 refl $ forget ! 12 refl $
@@ -165,4 +165,4 @@ grab-ms-spec 𝓤 H 𝓜 𝓖 𝓡 =
     entered 𝓤 H (tripleOf 𝓤 H (𝓖 .A) f.signature (f.spec 𝓤 H (𝓖 .A) (𝓜 .mem) (𝓡 .run))) (tables 𝓤 H 𝓜 𝓡 code.env .C) (tables 𝓤 H 𝓜 𝓡 code.env .Λ) key.name code.function (code.unfolded 𝓤 H 𝓜 𝓡)
     (meets 𝓤 H (𝓖 .A) (givenOf 𝓤 H 𝓜 𝓖) (𝓜 .mem) (𝓡 .run) (tablesOf 𝓤 H 𝓜 (tables 𝓤 H 𝓜 𝓡 code.env))
     (cited 𝓤 H (Stepping 𝓤 H (𝓖 .A) (𝓜 .mem) (𝓡 .run)) 𝓜 𝓡 code.env step-def.name step-def.routine code.calls-gesture·grab-ms (step-thm.met 𝓤 H 𝓜 𝓖 𝓡))
-    (cited 𝓤 H (Telling 𝓤 H (𝓖 .A) (𝓜 .mem) (𝓡 .run)) 𝓜 𝓡 code.env told-def.name told-def.routine code.calls-lent·told·grab-told-by (told-thm.met 𝓤 H 𝓜 𝓖 𝓡)))
+    (cited 𝓤 H (Telling 𝓤 H (𝓖 .A) (𝓜 .mem) (𝓡 .run)) 𝓜 𝓡 code.env told-def.name told-def.routine code.calls-lent·responses·grab-response-of (told-thm.met 𝓤 H 𝓜 𝓖 𝓡)))

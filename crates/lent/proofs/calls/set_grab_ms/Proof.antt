@@ -9,8 +9,8 @@ use Rattle.gesture.proofs.set_grab_ms.Met as step-thm
 use Rattle.lent.proofs.Records.{Telling}
 use Rattle.lent.proofs.Arguments.{number}
 use Rattle.lent.proofs.OneArgument.{Stepping, meets}
-use Rattle.lent.proofs.told.told_by.Symbol as told
-use Rattle.lent.proofs.told.told_by.Met as told-thm
+use Rattle.lent.proofs.responses.response_of.Symbol as told
+use Rattle.lent.proofs.responses.response_of.Met as told-thm
 use Rattle.lent.proofs.calls.set_grab_ms as f
 use Rattle.lent.proofs.calls.set_grab_ms.Key as key
 use Rattle.lent.proofs.calls.set_grab_ms.Statement.{statement}
@@ -22,4 +22,4 @@ set-grab-ms-spec 𝓤 H 𝓜 𝓖 𝓡 =
     entered 𝓤 H (tripleOf 𝓤 H (𝓖 .A) f.signature (f.spec 𝓤 H (𝓖 .A) (𝓜 .mem) (𝓡 .run))) (tables 𝓤 H 𝓜 𝓡 code.env .C) (tables 𝓤 H 𝓜 𝓡 code.env .Λ) key.name code.function (code.unfolded 𝓤 H 𝓜 𝓡)
     (meets (number w16) setGrabOf 𝓤 H (𝓖 .A) (givenOf 𝓤 H 𝓜 𝓖) (tablesOf 𝓤 H 𝓜 (tables 𝓤 H 𝓜 𝓡 code.env)) step.name
     (cited 𝓤 H (Stepping (number w16) setGrabOf 𝓤 H (𝓖 .A)) 𝓜 𝓡 code.env step.name step.routine code.calls-gesture·set-grab-ms (step-thm.met 𝓤 H 𝓜 𝓖 𝓡))
-    (cited 𝓤 H (Telling 𝓤 H (𝓖 .A)) 𝓜 𝓡 code.env told.name told.routine code.calls-lent·told·told-by (told-thm.met 𝓤 H 𝓜 𝓖 𝓡)))
+    (cited 𝓤 H (Telling 𝓤 H (𝓖 .A)) 𝓜 𝓡 code.env told.name told.routine code.calls-lent·responses·response-of (told-thm.met 𝓤 H 𝓜 𝓖 𝓡)))
