@@ -1,5 +1,3 @@
--- What a reader must believe about the calls of the host: the numbers that go back, and each call. Calling says how the
--- code passes a call on.
+-- What a reader must believe about the calls of the host: the numbers that go back, and each call.
 pub mod Numbers
 pub mod Hosts
-pub mod Calling

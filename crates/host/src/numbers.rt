@@ -1,14 +1,10 @@
 // An answer as numbers: the gesture's code and its own numbers, then the log line.
 ghost use mathlib.Core.Path.{_≡_};
-ghost use Rattle.gesture.specs.Lines as lines;
-ghost use Rattle.gesture.specs.Lines.{axisNumber};
-ghost use Rattle.host.specs.Numbers as rule;
-ghost use Rattle.host.specs.Numbers.{gestureNumbers, givenNumbers, logNumbers, numbersOf};
-use gesture::Answer;
+ghost use Rattle.host.specs.Numbers.{coded, gestureNumbers, givenNumbers, logNumbers, numbersOf};
 use gesture::Gesture;
 use gesture::Given;
 use gesture::Log;
-use panel::Axis;
+use image::AreaAnswer;
 use panel::Point;
 
 pub const ANSWER_NUMBERS: usize = 11;
@@ -43,23 +39,8 @@ pub(crate) fn wide16(x: u16) -> u64
     x as u64
 }
 
-fn axis_number(a: Axis) -> u8
-    ensures { λ r. ⌜ r ≡ axisNumber a ⌝ }
-{
-    match a {
-        Axis::H => 0,
-        Axis::V => 1,
-    }
-}
-
-fn bit(b: bool) -> u8
-    ensures { λ r. ⌜ r ≡ lines.bit b ⌝ }
-{
-    if b { 1 } else { 0 }
-}
-
 fn alone(code: u64) -> GestureNumbers
-    ensures { λ r. ⌜ r ≡ rule.alone code ⌝ }
+    ensures { λ r. ⌜ r ≡ coded code 0 0 0 0 0 ⌝ }
 {
     GestureNumbers {
         code,
@@ -72,7 +53,7 @@ fn alone(code: u64) -> GestureNumbers
 }
 
 fn counted(code: u64, n: u8) -> GestureNumbers
-    ensures { λ r. ⌜ r ≡ rule.counted code n ⌝ }
+    ensures { λ r. ⌜ r ≡ coded code n 0 0 0 0 ⌝ }
 {
     GestureNumbers {
         code,
@@ -85,7 +66,7 @@ fn counted(code: u64, n: u8) -> GestureNumbers
 }
 
 fn at(code: u64, p: Point) -> GestureNumbers
-    ensures { λ r. ⌜ r ≡ rule.at code p ⌝ }
+    ensures { λ r. ⌜ r ≡ coded code (p .x) (p .y) 0 0 0 ⌝ }
 {
     GestureNumbers {
         code,
@@ -98,7 +79,7 @@ fn at(code: u64, p: Point) -> GestureNumbers
 }
 
 fn between(code: u64, p: Point, q: Point, n: u8) -> GestureNumbers
-    ensures { λ r. ⌜ r ≡ rule.between code p q n ⌝ }
+    ensures { λ r. ⌜ r ≡ coded code (p .x) (p .y) (q .x) (q .y) n ⌝ }
 {
     GestureNumbers {
         code,
@@ -111,7 +92,7 @@ fn between(code: u64, p: Point, q: Point, n: u8) -> GestureNumbers
 }
 
 fn spans(code: u64, axis: u8, span0: u16, span: u16) -> GestureNumbers
-    ensures { λ r. ⌜ r ≡ rule.spans code axis span0 span ⌝ }
+    ensures { λ r. ⌜ r ≡ coded code axis span0 span 0 0 ⌝ }
 {
     GestureNumbers {
         code,
@@ -131,7 +112,7 @@ fn gesture_numbers(g: Gesture) -> GestureNumbers
         Gesture::Down(p) => at(1, p),
         Gesture::Tap(p) => at(2, p),
         Gesture::LongPress(p) => at(3, p),
-        Gesture::Drag(start, p, a) => between(4, start, p, axis_number(a)),
+        Gesture::Drag(start, p, a) => between(4, start, p, panel::axis_number(a)),
         Gesture::Grab(p) => at(5, p),
         Gesture::Up(p) => at(6, p),
         Gesture::SwipeLeft => alone(7),
@@ -143,8 +124,8 @@ fn gesture_numbers(g: Gesture) -> GestureNumbers
         Gesture::KeyDown(key) => counted(13, key),
         Gesture::KeyUp(key) => counted(14, key),
         Gesture::Move(prev, p) => between(15, prev, p, 0),
-        Gesture::Pinch(a, span0, span) => spans(16, axis_number(a), span0, span),
-        Gesture::PinchEnd(released) => counted(17, bit(released)),
+        Gesture::Pinch(a, span0, span) => spans(16, panel::axis_number(a), span0, span),
+        Gesture::PinchEnd(released) => counted(17, panel::bit(released)),
     }
 }
 
@@ -181,7 +162,7 @@ fn log_numbers(log: Log) -> LogNumbers
     }
 }
 
-pub(crate) fn numbers_of(a: Answer) -> [u64; ANSWER_NUMBERS]
+pub(crate) fn numbers_of(a: AreaAnswer) -> [u64; ANSWER_NUMBERS]
     ensures { λ r. ⌜ r ≡ numbersOf a ⌝ }
 {
     let given = a.gesture;
