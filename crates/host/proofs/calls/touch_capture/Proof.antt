@@ -1,18 +1,20 @@
 -- `host::calls::touch_capture` meets its contract. Assumes nothing.
-use Rattle.host.specs.Calling.{answerTo}
+use Rattle.host.proofs.Answering.{plain-call}
 use borrow.Author.Needs.{needs}
 use Rattle.host.proofs.calls.touch_capture.Statement.{statement}
 use Rattle.host.proofs.calls.touch_capture.Tie as tie
 
-made-requires : tie.Need-made-requires
-made-requires c κs = search needs
+plain-requires : tie.Need-plain-requires
+plain-requires c κs = search needs
+
+call-on-requires : tie.Need-call-on-requires
+call-on-requires c κs = search needs
 
 same-length : tie.Need-same-length
 same-length c = search needs
 
 returns : tie.Need-returns
-unfolding answerTo
-returns c = c .before .before .made .ensures
+returns c = plain-call _ _ _ _ (c .before .before .before .before .plain .ensures) (c .before .before .call-on .ensures)
 
 pub touch-capture-spec : {M : Type 1} → statement M
-touch-capture-spec = tie.close (tie.spec made-requires same-length returns)
+touch-capture-spec = tie.close (tie.spec plain-requires call-on-requires same-length returns)

@@ -1,11 +1,10 @@
 -- `host::numbers::alone` meets its contract. Assumes nothing.
 use mathlib.Core.Path.{refl}
-use Rattle.host.specs.Numbers.{alone}
+use Rattle.host.specs.Numbers.{coded}
 use Rattle.host.proofs.numbers.alone.Statement.{statement}
 use Rattle.host.proofs.numbers.alone.Tie as tie
 
 returns : tie.Need-returns
-unfolding alone
 returns c = refl
 
 pub alone-spec : {M : Type 1} → statement M

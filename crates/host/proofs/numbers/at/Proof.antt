@@ -1,5 +1,5 @@
 -- `host::numbers::at` meets its contract. Assumes nothing.
-use Rattle.host.specs.Numbers.{coded, at}
+use Rattle.host.specs.Numbers.{coded}
 use borrow.Author.Needs.{needs}
 use Rattle.host.proofs.numbers.at.Statement.{statement}
 use Rattle.host.proofs.numbers.at.Tie as tie
@@ -11,7 +11,6 @@ wide16-requires-2 : tie.Need-wide16-requires-2
 wide16-requires-2 c κs = search needs
 
 returns : tie.Need-returns
-unfolding at
 returns c = λ i. coded (c .before .before .args .code) (c .before .wide16 .ensures i) (c .wide162 .ensures i) 0 0 0
 
 pub at-spec : {M : Type 1} → statement M

@@ -1,5 +1,5 @@
 -- `host::numbers::between` meets its contract. Assumes nothing.
-use Rattle.host.specs.Numbers.{coded, between}
+use Rattle.host.specs.Numbers.{coded}
 use borrow.Author.Needs.{needs}
 use Rattle.host.proofs.numbers.between.Statement.{statement}
 use Rattle.host.proofs.numbers.between.Tie as tie
@@ -20,7 +20,6 @@ wide8-requires : tie.Need-wide8-requires
 wide8-requires c κs = search needs
 
 returns : tie.Need-returns
-unfolding between
 returns c = λ i. coded (c .before .before .before .before .before .args .code) (c .before .before .before .before .wide16 .ensures i) (c .before .before .before .wide162 .ensures i) (c .before .before .wide163 .ensures i) (c .before .wide164 .ensures i) (c .wide8 .ensures i)
 
 pub between-spec : {M : Type 1} → statement M

@@ -1,5 +1,5 @@
 -- `host::numbers::counted` meets its contract. Assumes nothing.
-use Rattle.host.specs.Numbers.{coded, counted}
+use Rattle.host.specs.Numbers.{coded}
 use borrow.Author.Needs.{needs}
 use Rattle.host.proofs.numbers.counted.Statement.{statement}
 use Rattle.host.proofs.numbers.counted.Tie as tie
@@ -8,7 +8,6 @@ wide8-requires : tie.Need-wide8-requires
 wide8-requires c κs = search needs
 
 returns : tie.Need-returns
-unfolding counted
 returns c = λ i. coded (c .before .args .code) (c .wide8 .ensures i) 0 0 0 0
 
 pub counted-spec : {M : Type 1} → statement M

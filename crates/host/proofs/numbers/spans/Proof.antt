@@ -1,5 +1,5 @@
 -- `host::numbers::spans` meets its contract. Assumes nothing.
-use Rattle.host.specs.Numbers.{coded, spans}
+use Rattle.host.specs.Numbers.{coded}
 use borrow.Author.Needs.{needs}
 use Rattle.host.proofs.numbers.spans.Statement.{statement}
 use Rattle.host.proofs.numbers.spans.Tie as tie
@@ -14,7 +14,6 @@ wide16-requires-2 : tie.Need-wide16-requires-2
 wide16-requires-2 c κs = search needs
 
 returns : tie.Need-returns
-unfolding spans
 returns c = λ i. coded (c .before .before .before .args .code) (c .before .before .wide8 .ensures i) (c .before .wide16 .ensures i) (c .wide162 .ensures i) 0 0
 
 pub spans-spec : {M : Type 1} → statement M
