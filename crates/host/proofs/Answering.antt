@@ -1,4 +1,4 @@
--- What a call on an area answered, as the numbers of the host. Assumes nothing.
+-- A call of the host, from what image answered. Assumes nothing.
 use Prim.Native.Nat.{ℕ}
 use mathlib.Core.Path.{_≡_, _∙_, ap}
 use mathlib.Core.List.{List, [], _∷_}
@@ -6,20 +6,17 @@ use Rattle.gesture.specs.Calls.{Call, callBy, callOf}
 use Rattle.gesture.specs.declared.making.Call as value
 use Rattle.gesture.specs.declared.making.CallKind.{CallKind}
 use Rattle.image.specs.Calls.{left, madeOn, grabOn}
-use Rattle.image.specs.declared.calls.AreaAnswer.{AreaAnswer}
 use Rattle.image.specs.declared.calls.AreaGrab.{AreaGrab}
-use Rattle.host.specs.Numbers.{numbersOf}
-use Rattle.host.specs.Hosts.{Hosted, host, numbered, hosted, grabNumbered, grabHosted}
+use Rattle.host.specs.Hosts.{grabTold, grabHosted}
 
-module _ (area : List ℕ) where
-  pub call-numbered : (c : Call) (a : AreaAnswer) (after out : List ℕ) (r : ℕ) → left a after ≡ madeOn area c → r ≡ a .refusal → out ≡ numbersOf a → host r after out ≡ hosted area c
-  unfolding hosted numbered
-  call-numbered c a after out r made number told = (λ i. host (number i) after (told i)) ∙ ap numbered made
+module _ (area after out : List ℕ) (r n : ℕ) (wide : r ≡ n) (c : value.Call) (made : left n after out ≡ madeOn area (callOf c)) where
+  pub wide-call : left r after out ≡ madeOn area (callOf c)
+  wide-call = ap (λ (k : ℕ). left k after out) wide ∙ made
 
   -- a call without a report is the call of its kind
-  pub plain-call : (c : value.Call) (kind : CallKind) (h : Hosted) → c .kind ≡ kind → h ≡ hosted area (callOf c) → h ≡ hosted area (callBy kind (c .event))
-  plain-call c kind h is made = made ∙ ap (λ (k : CallKind). hosted area (callBy k (c .event))) is
+  pub plain-call : (kind : CallKind) → c .kind ≡ kind → left r after out ≡ madeOn area (callBy kind (c .event))
+  plain-call kind is = wide-call ∙ ap (λ (k : CallKind). madeOn area (callBy k (c .event))) is
 
-  pub grab-numbered : (g : AreaGrab) (r ms : ℕ) → g ≡ grabOn area → r ≡ g .refusal → ms ≡ g .ms → host r area (ms ∷ []) ≡ grabHosted area
-  unfolding grabHosted grabNumbered
-  grab-numbered g r ms is number time = (λ i. host (number i) area (time i ∷ [])) ∙ ap (grabNumbered area) is
+pub grab-numbers : (area : List ℕ) (g : AreaGrab) (r ms : ℕ) → g ≡ grabOn area → r ≡ g .refusal → ms ≡ g .ms → grabTold r (ms ∷ []) ≡ grabHosted area
+unfolding grabHosted
+grab-numbers area g r ms is number time = (λ i. grabTold (number i) (time i ∷ [])) ∙ (λ i. grabTold (is i .refusal) (is i .ms ∷ []))

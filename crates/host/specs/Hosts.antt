@@ -1,8 +1,8 @@
 -- The calls of the host on the area that holds the tracker.
 --
 -- "The host's C main loop calls event, tick, capture and apply16 on numbers and one lent byte area that holds the tracker."
--- What a call on an area comes to is said by the crate image (Calls); here are the numbers that go back: a refusal number,
--- or 0, and the numbers of the answer, beside the area.
+-- What a call on an area comes to, and the numbers that go back, is said by the crate image (Calls, Numbers): the contracts
+-- cite its `madeOn`. Here are the report that the numbers of a call are, and what the two others give.
 use Prim.Native.Nat.{ℕ}
 use mathlib.Core.List.{List, [], _∷_}
 use lib.IntN.{ℤ, pos}
@@ -12,31 +12,19 @@ use Rattle.panel.specs.declared.points.Event.{Event}
 use Rattle.calmap.specs.declared.mapping.ApplyAnswer.{ApplyAnswer}
 use Rattle.calmap.specs.declared.mapping.ApplyAnswer.the-variants as apply
 use Rattle.calmap.specs.declared.units.Cal.{Cal}
-use Rattle.gesture.specs.Calls.{Call}
-use Rattle.image.specs.Calls.{Left, madeOn, grabOn}
-use Rattle.image.specs.declared.calls.AreaGrab.{AreaGrab}
-use Rattle.host.specs.Numbers.{numbersOf}
+use Rattle.image.specs.Calls.{grabOn}
 
-pub record Hosted : Type 0 where
+-- The grab time alone: a refusal number, or 0, and one number. The area is lent to be read only.
+
+pub record GrabTold : Type 0 where
   pub number : ℕ
-  pub area : List ℕ
   pub out : List ℕ
 
-abbrev pub host : ℕ → List ℕ → List ℕ → Hosted
-host number area out = record { number = number; area = area; out = out }
+abbrev pub grabTold : ℕ → List ℕ → GrabTold
+grabTold number out = record { number = number; out = out }
 
-unfoldable pub numbered : Left → Hosted
-numbered l = host (l .answer .refusal) (l .area) (numbersOf (l .answer))
-
-unfoldable pub hosted : List ℕ → Call → Hosted
-hosted area c = numbered (madeOn area c)
-
--- the grab time alters nothing
-unfoldable pub grabNumbered : List ℕ → AreaGrab → Hosted
-grabNumbered area g = host (g .refusal) area (g .ms ∷ [])
-
-unfoldable pub grabHosted : List ℕ → Hosted
-grabHosted area = grabNumbered area (grabOn area)
+unfoldable pub grabHosted : List ℕ → GrabTold
+grabHosted area = grabTold (grabOn area .refusal) (grabOn area .ms ∷ [])
 
 -- The report that the numbers of a call are.
 

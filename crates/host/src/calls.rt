@@ -1,4 +1,5 @@
-// The tracker's calls on the area that holds it, each as a C main loop makes it.
+// The tracker's calls on the area that holds it, each as a C main loop makes it: the numbers of its arguments become a call,
+// which image makes.
 ghost use mathlib.Core.Path.{_≡_};
 ghost use mathlib.Core.Bool.{not};
 ghost use mathlib.Core.List.{[], _∷_};
@@ -6,12 +7,12 @@ ghost use Rattle.panel.specs.Tests.{_=?_};
 ghost use Rattle.gesture.specs.Calls.{report, tick, capture, captureDirect, rawNext, setGrabMs};
 ghost use Rattle.gesture.specs.Trackers.{freshTracker};
 ghost use Rattle.image.specs.Codec.{stored, encodeOf};
-ghost use Rattle.host.specs.Hosts.{host, hosted, grabHosted, point, reportOf};
-use crate::making;
-use crate::numbers;
-use crate::numbers::ANSWER_NUMBERS;
+ghost use Rattle.image.specs.Calls.{left, madeOn};
+ghost use Rattle.host.specs.Hosts.{grabTold, grabHosted, point, reportOf};
+use crate::widths;
 use gesture::Call;
 use gesture::CallKind;
+use image::ANSWER_NUMBERS;
 use panel::Event;
 use panel::Point;
 
@@ -20,39 +21,39 @@ use panel::Point;
 pub extern "C" fn touch_fresh(image: &mut [u8]) -> u32
     ensures { λ r. ⌜ stored r (now (image .exit)) ≡ encodeOf freshTracker (now (image .entry)) ⌝ }
 {
-    making::wide32(image::encode_fresh(image))
+    widths::wide32(image::encode_fresh(image))
 }
 
 // To be called periodically, between the reports.
 #[no_mangle]
 pub extern "C" fn touch_tick(image: &mut [u8], time: u64, out: &mut [u64; ANSWER_NUMBERS]) -> u32
-    ensures { λ r. ⌜ host r (now (image .exit)) (now (out .exit)) ≡ hosted (now (image .entry)) (tick time) ⌝ }
+    ensures { λ r. ⌜ left r (now (image .exit)) (now (out .exit)) ≡ madeOn (now (image .entry)) (tick time) ⌝ }
 {
-    making::call_on(image, image::plain(CallKind::Tick(time)), out)
+    widths::wide32(image::make(image, image::plain(CallKind::Tick(time)), out))
 }
 
 // The app took the current touch: the release of its one finger is then no swipe and no tap.
 #[no_mangle]
 pub extern "C" fn touch_capture(image: &mut [u8], out: &mut [u64; ANSWER_NUMBERS]) -> u32
-    ensures { λ r. ⌜ host r (now (image .exit)) (now (out .exit)) ≡ hosted (now (image .entry)) capture ⌝ }
+    ensures { λ r. ⌜ left r (now (image .exit)) (now (out .exit)) ≡ madeOn (now (image .entry)) capture ⌝ }
 {
-    making::call_on(image, image::plain(CallKind::Capture), out)
+    widths::wide32(image::make(image, image::plain(CallKind::Capture), out))
 }
 
 // The app took the current touch, which has no hold before a drag from here on. The raw wish is cleared.
 #[no_mangle]
 pub extern "C" fn touch_capture_direct(image: &mut [u8], out: &mut [u64; ANSWER_NUMBERS]) -> u32
-    ensures { λ r. ⌜ host r (now (image .exit)) (now (out .exit)) ≡ hosted (now (image .entry)) captureDirect ⌝ }
+    ensures { λ r. ⌜ left r (now (image .exit)) (now (out .exit)) ≡ madeOn (now (image .entry)) captureDirect ⌝ }
 {
-    making::call_on(image, image::plain(CallKind::CaptureDirect), out)
+    widths::wide32(image::make(image, image::plain(CallKind::CaptureDirect), out))
 }
 
 // Ask for raw moves on the touch that the app is about to capture: 0 is off, any other number on.
 #[no_mangle]
 pub extern "C" fn touch_raw_next(image: &mut [u8], on: u8, out: &mut [u64; ANSWER_NUMBERS]) -> u32
-    ensures { λ r. ⌜ host r (now (image .exit)) (now (out .exit)) ≡ hosted (now (image .entry)) (rawNext (not (on =? 0))) ⌝ }
+    ensures { λ r. ⌜ left r (now (image .exit)) (now (out .exit)) ≡ madeOn (now (image .entry)) (rawNext (not (on =? 0))) ⌝ }
 {
-    making::call_on(image, image::plain(CallKind::RawNext(on != 0)), out)
+    widths::wide32(image::make(image, image::plain(CallKind::RawNext(on != 0)), out))
 }
 
 // Hold-to-grab time in ms, cut to 5000; 0 for direct drags.
@@ -62,19 +63,19 @@ pub extern "C" fn touch_set_grab_ms(
     ms: u16,
     out: &mut [u64; ANSWER_NUMBERS],
 ) -> u32
-    ensures { λ r. ⌜ host r (now (image .exit)) (now (out .exit)) ≡ hosted (now (image .entry)) (setGrabMs ms) ⌝ }
+    ensures { λ r. ⌜ left r (now (image .exit)) (now (out .exit)) ≡ madeOn (now (image .entry)) (setGrabMs ms) ⌝ }
 {
-    making::call_on(image, image::plain(CallKind::SetGrabMs(ms)), out)
+    widths::wide32(image::make(image, image::plain(CallKind::SetGrabMs(ms)), out))
 }
 
 // The hold-to-grab time alone. The area is read and not written.
 #[no_mangle]
 pub extern "C" fn touch_grab_ms(image: &[u8], out: &mut [u64; 1]) -> u32
-    ensures { λ r. ⌜ host r (now (image .entry)) (now (out .exit)) ≡ grabHosted (now (image .entry)) ⌝ }
+    ensures { λ r. ⌜ grabTold r (now (out .exit)) ≡ grabHosted (now (image .entry)) ⌝ }
 {
     let g = image::grab_ms(image);
-    *out = [numbers::wide16(g.ms)];
-    making::wide32(g.refusal)
+    *out = [widths::wide64(g.ms)];
+    widths::wide32(g.refusal)
 }
 
 // A report of the controller: the point of one finger, then the five points of several.
@@ -98,7 +99,7 @@ pub extern "C" fn touch_event(
     y4: u16,
     out: &mut [u64; ANSWER_NUMBERS],
 ) -> u32
-    ensures { λ r. ⌜ host r (now (image .exit)) (now (out .exit)) ≡ hosted (now (image .entry)) (report time (reportOf keys count (point px py) (point x0 y0 ∷ point x1 y1 ∷ point x2 y2 ∷ point x3 y3 ∷ point x4 y4 ∷ []))) ⌝ }
+    ensures { λ r. ⌜ left r (now (image .exit)) (now (out .exit)) ≡ madeOn (now (image .entry)) (report time (reportOf keys count (point px py) (point x0 y0 ∷ point x1 y1 ∷ point x2 y2 ∷ point x3 y3 ∷ point x4 y4 ∷ []))) ⌝ }
 {
     let event = Event {
         points: count,
@@ -116,5 +117,5 @@ pub extern "C" fn touch_event(
         kind: CallKind::Report(time),
         event,
     };
-    making::call_on(image, c, out)
+    widths::wide32(image::make(image, c, out))
 }

@@ -25,11 +25,11 @@ use Rattle.gesture.specs.declared.making.CallKind.the-variants.{Capture}
 use Rattle.gesture.specs.declared.record.Tracker.{Tracker}
 use Rattle.image.specs.Image.{imageOf}
 use Rattle.image.specs.Codec.{decodeOf}
-use Rattle.image.specs.Calls.{Left, left, answeredBy, refusedBy, finished, onDecoded, madeOn, grab, grabDecoded, grabOn}
+use Rattle.image.specs.Numbers.{numbersOf, zeros}
+use Rattle.image.specs.Calls.{Left, left, finished, onDecoded, madeOn, grab, grabDecoded, grabOn}
 use Rattle.image.specs.code.Settings.{at-end, settingsAt}
 use Rattle.image.specs.code.Whole.{trackerAt}
 use Rattle.image.specs.code.Finding.{foundOf}
-use Rattle.image.specs.declared.calls.AreaAnswer.{AreaAnswer}
 use Rattle.image.specs.declared.codec.DecodeAnswer.{DecodeAnswer}
 use Rattle.image.specs.declared.codec.DecodeAnswer.the-variants.{Answered, Refused}
 use Rattle.image.proofs.Codecs.{found-long, decode-keeps, decode-breaks, decode-fails, decode-length}
@@ -38,13 +38,13 @@ use Rattle.image.proofs.Laid.{bytes-end}
 -- What a call answered.
 
 module _ (area : List ℕ) (a : Answer) where
-  pub finish-answered : (after : List ℕ) → a .refusal ≡ 0 → after ≡ imageOf (a .tracker) → left (answeredBy a) after ≡ finished area a
+  pub finish-answered : (after out : List ℕ) → a .refusal ≡ 0 → after ≡ imageOf (a .tracker) → out ≡ numbersOf a → left 0 after out ≡ finished area a
   unfolding finished
-  finish-answered after none kept = ap (left (answeredBy a)) kept ∙ sym (if-true _ _ _ (eq-eqb _ _ none))
+  finish-answered after out none kept told = (λ i. left 0 (kept i) (told i)) ∙ sym (if-true _ _ _ (eq-eqb _ _ none))
 
-  pub finish-refused : (r : AreaAnswer) → (a .refusal ≡ 0 → ⊥) → r ≡ refusedBy (a .refusal) → left r area ≡ finished area a
+  pub finish-refused : (a .refusal ≡ 0 → ⊥) → left (a .refusal) area zeros ≡ finished area a
   unfolding finished
-  finish-refused r why e = ap (λ (x : AreaAnswer). left x area) e ∙ sym (if-false _ _ _ (ne-eqb _ _ why))
+  finish-refused why = sym (if-false _ _ _ (ne-eqb _ _ why))
 
 -- The state rule is left to the tracker's own call, which refuses a tracker that breaks it.
 
@@ -57,7 +57,7 @@ broken-refused captureDirect t broken = if-false _ _ _ broken
 broken-refused (rawNext on) t broken = if-false _ _ _ broken
 broken-refused (setGrabMs ms) t broken = if-false _ _ _ broken
 
-state-finished : (area : List ℕ) (t : Tracker) → finished area (refused State t) ≡ left (refusedBy (numberOf State)) area
+state-finished : (area : List ℕ) (t : Tracker) → finished area (refused State t) ≡ left (numberOf State) area zeros
 unfolding finished answers.refused tests.if_then_else_
 state-finished area t = refl
 
@@ -76,19 +76,19 @@ module _ (area : List ℕ) (d : DecodeAnswer) (found : d ≡ foundOf area) where
     pub make-answered : (t : Tracker) (a : Answer) (l : Left) → d ≡ Answered t → a ≡ answerOf t c → l ≡ finished area a → l ≡ madeOn area c
     make-answered t a l e answer done = done ∙ ap (finished area) answer ∙ by-rule t (stateRule t) refl (sym e ∙ found)
 
-    pub make-refused : (why : Refusal) (n : ℕ) (r : AreaAnswer) → d ≡ Refused why → n ≡ numberOf why → r ≡ refusedBy n → left r area ≡ madeOn area c
+    pub make-refused : (why : Refusal) (n : ℕ) → d ≡ Refused why → n ≡ numberOf why → left n area zeros ≡ madeOn area c
     unfolding madeOn onDecoded
-    make-refused why n r e is told = ap (λ (x : AreaAnswer). left x area) (told ∙ ap refusedBy is) ∙ ap (λ (x : DecodeAnswer). onDecoded area x c) (decode-fails area why (sym e ∙ found))
+    make-refused why n e is = ap (λ (k : ℕ). left k area zeros) is ∙ ap (λ (x : DecodeAnswer). onDecoded area x c) (decode-fails area why (sym e ∙ found))
 
 -- The grab time, from a capture of a copy of the area: both are refused for the same areas.
 
-finished-number : (area : List ℕ) (a : Answer) → finished area a .answer .refusal ≡ a .refusal
+finished-number : (area : List ℕ) (a : Answer) → finished area a .number ≡ a .refusal
 unfolding finished
-finished-number area a = if-know (λ (l : Left). l .answer .refusal ≡ a .refusal) _ _ _ (λ yes. sym (eqb-true _ _ yes)) (λ other. refl)
+finished-number area a = if-know (λ (l : Left). l .number ≡ a .refusal) _ _ _ (λ yes. sym (eqb-true _ _ yes)) (λ other. refl)
 
 module _ (area : List ℕ) where
   abbrev asked : DecodeAnswer → ℕ
-  asked d = onDecoded area d capture .answer .refusal
+  asked d = onDecoded area d capture .number
 
   abbrev Alike : DecodeAnswer → Type 0
   Alike d = (grabDecoded d .refusal ≡ asked d) × (asked d ≡ 0 → grabDecoded d .ms ≡ settingsAt area .«grab_ms») × ((asked d ≡ 0 → ⊥) → grabDecoded d .ms ≡ 0)
@@ -112,12 +112,12 @@ module _ (area : List ℕ) where
   unfolding grabOn grabDecoded
   grab-length n e differ = ap (λ (k : ℕ). grab k 0) e ∙ ap grabDecoded (sym (decode-length area (λ same-bytes. differ (same-bytes ∙ bytes-end))))
 
-  module _ (held after : List ℕ) (a : AreaAnswer) (c : value.Call) (copy : held ≡ area) (is-capture : c .kind ≡ Capture) (made : left a after ≡ madeOn held (callOf c)) where
-    same-number : a .refusal ≡ asked (decodeOf area)
+  module _ (held after out : List ℕ) (r : ℕ) (c : value.Call) (copy : held ≡ area) (is-capture : c .kind ≡ Capture) (made : left r after out ≡ madeOn held (callOf c)) where
+    same-number : r ≡ asked (decodeOf area)
     unfolding madeOn
-    same-number = ap (λ (l : Left). l .answer .refusal) (made ∙ (λ i. madeOn (copy i) (callBy (is-capture i) (c .event))))
+    same-number = ap (λ (l : Left). l .number) (made ∙ (λ i. madeOn (copy i) (callBy (is-capture i) (c .event))))
 
-    pub grab-answered : (s : Settings) → s ≡ settingsAt area → a .refusal ≡ 0 → grab 0 (s .«grab_ms») ≡ grabOn area
+    pub grab-answered : (s : Settings) → s ≡ settingsAt area → r ≡ 0 → grab 0 (s .«grab_ms») ≡ grabOn area
     unfolding grabOn
     grab-answered s is none =
         let told = alike in
@@ -125,7 +125,7 @@ module _ (area : List ℕ) where
         let time = ap (λ (x : Settings). x .«grab_ms») is ∙ sym (told .1 (sym same-number ∙ none)) in
         λ i. grab (number i) (time i)
 
-    pub grab-refused : (a .refusal ≡ 0 → ⊥) → grab (a .refusal) 0 ≡ grabOn area
+    pub grab-refused : (r ≡ 0 → ⊥) → grab r 0 ≡ grabOn area
     unfolding grabOn
     grab-refused why =
         let told = alike in

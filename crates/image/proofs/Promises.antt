@@ -30,7 +30,6 @@ use Rattle.image.specs.code.Whole.{trackerAt}
 use Rattle.image.specs.Typed.{Bytes, Typed}
 use Rattle.image.specs.Codec.{NoImage, Decodes, isImage, decodeOf, toldDecode, Stored, stored, encodeOf}
 use Rattle.image.specs.Calls.{Left, left, madeOn, grabOn}
-use Rattle.image.specs.declared.calls.AreaAnswer.{AreaAnswer}
 use Rattle.image.specs.declared.calls.AreaGrab.{AreaGrab}
 use Rattle.image.specs.declared.codec.DecodeAnswer.{DecodeAnswer}
 use Rattle.image.specs.declared.codec.DecodeAnswer.the-variants.{Answered, Refused}
@@ -142,10 +141,10 @@ decode-unique area = one-answer
 pub grab-unique : (area : List ℕ) {r s : AreaGrab} → r ≡ grabOn area → s ≡ grabOn area → r ≡ s
 grab-unique area = one-answer
 
-pub make-unique : (area : List ℕ) (c : Call) (r s : AreaAnswer) (a b : List ℕ) → left r a ≡ madeOn area c → left s b ≡ madeOn area c → (r ≡ s) × (a ≡ b)
-make-unique area c r s a b p q =
+pub make-unique : (area : List ℕ) (c : Call) (r s : ℕ) (a b out told : List ℕ) → left r a out ≡ madeOn area c → left s b told ≡ madeOn area c → (r ≡ s) × (a ≡ b) × (out ≡ told)
+make-unique area c r s a b out told p q =
     let e = one-answer p q in
-    (ap (λ (l : Left). l .answer) e, ap (λ (l : Left). l .area) e)
+    (ap (λ (l : Left). l .number) e, ap (λ (l : Left). l .area) e, ap (λ (l : Left). l .out) e)
 
 pub encode-unique : (t : Tracker) (area : List ℕ) (r s : ℕ) (a b : List ℕ) → stored r a ≡ encodeOf t area → stored s b ≡ encodeOf t area → (r ≡ s) × (a ≡ b)
 encode-unique t area r s a b p q =

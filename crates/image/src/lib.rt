@@ -6,11 +6,11 @@ mod ended;
 mod fields;
 mod finger;
 mod keys;
+mod numbers;
 mod settings;
 mod touches;
 mod whole;
 
-pub use calls::AreaAnswer;
 pub use calls::AreaGrab;
 pub use calls::grab_ms;
 pub use calls::make;
@@ -19,4 +19,5 @@ pub use codec::DecodeAnswer;
 pub use codec::decode;
 pub use codec::encode;
 pub use codec::encode_fresh;
+pub use numbers::ANSWER_NUMBERS;
 pub use settings::IMAGE_BYTES;

@@ -36,21 +36,21 @@ settings-at-requires c κs = search needs
 returns-2 : tie.Need-returns-2
 returns-2 c =
     let then2 = c .before in
-    let after-make = then2 .before .before .before in
-    let after-plain = after-make .before in
+    let after-make = then2 .before .before in
+    let after-plain = after-make .before .before in
     let after-copy = after-plain .before .before .before in
     let else1 = after-copy .before .before in
     let at-start = else1 .before .before in
-    grab-answered _ _ _ _ _ (after-copy .copy .ensures .1 ∙ copied (at-start .args .area .now) (replicate at-end 0) (else1 .if1 .left)) (after-plain .plain .ensures) (after-make .make .ensures) _ (settings-are _ _ (c .settings-at .ensures)) (then2 .if2 .taken)
+    grab-answered _ _ _ _ _ _ (after-copy .copy .ensures .1 ∙ copied (at-start .args .area .now) (replicate at-end 0) (else1 .if1 .left)) (after-plain .plain .ensures) (after-make .make .ensures) _ (settings-are _ _ (c .settings-at .ensures)) (then2 .if2 .taken)
 
 returns-3 : tie.Need-returns-3
 returns-3 c =
-    let after-make = c .before .before .before in
-    let after-plain = after-make .before in
+    let after-make = c .before .before in
+    let after-plain = after-make .before .before in
     let after-copy = after-plain .before .before .before in
     let else1 = after-copy .before .before in
     let at-start = else1 .before .before in
-    grab-refused _ _ _ _ _ (after-copy .copy .ensures .1 ∙ copied (at-start .args .area .now) (replicate at-end 0) (else1 .if1 .left)) (after-plain .plain .ensures) (after-make .make .ensures) (c .if2 .left)
+    grab-refused _ _ _ _ _ _ (after-copy .copy .ensures .1 ∙ copied (at-start .args .area .now) (replicate at-end 0) (else1 .if1 .left)) (after-plain .plain .ensures) (after-make .make .ensures) (c .if2 .left)
 
 pub grab-ms-spec : {M : Type 1} → statement M
 grab-ms-spec =

@@ -15,7 +15,7 @@ make-requires c κs = search needs
 
 finish-requires : tie.Need-finish-requires
 finish-requires c κs =
-    let after-d = c .before .before .before in
+    let after-d = c .before .before .before .before in
     let after-unruled = after-d .before .before in
     held-length _ _ (after-unruled .unruled .ensures) _ (after-d .d .given .1)
 
@@ -25,16 +25,13 @@ enum-known-d-2 c = search needs
 number-requires : tie.Need-number-requires
 number-requires c κs = search needs
 
-refused-requires : tie.Need-refused-requires
-refused-requires c κs = search needs
-
 same-length : tie.Need-same-length
 same-length c = search needs
 
 returns : tie.Need-returns
 returns c =
     let after-finish = c .before .before in
-    let after-make = after-finish .before in
+    let after-make = after-finish .before .before in
     let after-d = after-make .before .before .before in
     let after-unruled = after-d .before .before in
     make-answered _ _ (after-unruled .unruled .ensures) _ _ _ _ (after-d .d .given .1) (after-make .make .ensures) (after-finish .finish .ensures)
@@ -44,10 +41,9 @@ same-length-2 c = search needs
 
 returns-2 : tie.Need-returns-2
 returns-2 c =
-    let after-number = c .before in
-    let after-d2 = after-number .before .before in
+    let after-d2 = c .before .before .before in
     let after-unruled = after-d2 .before .before in
-    make-refused _ _ (after-unruled .unruled .ensures) _ _ _ _ (after-d2 .d2 .given .1) (after-number .number .ensures) (c .refused .ensures)
+    make-refused _ _ (after-unruled .unruled .ensures) _ _ _ (after-d2 .d2 .given .1) (c .number .ensures)
 
 pub make-spec : {M : Type 1} → statement M
 make-spec =
@@ -59,7 +55,6 @@ make-spec =
     finish-requires
     enum-known-d-2
     number-requires
-    refused-requires
     same-length
     returns
     same-length-2

@@ -1,8 +1,8 @@
--- `host::numbers::between` meets its contract. Assumes nothing.
-use Rattle.host.specs.Numbers.{coded}
+-- `image::numbers::between` meets its contract. Assumes nothing.
+use Rattle.image.specs.Numbers.{coded}
 use borrow.Author.Needs.{needs}
-use Rattle.host.proofs.numbers.between.Statement.{statement}
-use Rattle.host.proofs.numbers.between.Tie as tie
+use Rattle.image.proofs.numbers.between.Statement.{statement}
+use Rattle.image.proofs.numbers.between.Tie as tie
 
 wide16-requires : tie.Need-wide16-requires
 wide16-requires c κs = search needs

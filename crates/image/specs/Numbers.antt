@@ -1,4 +1,4 @@
--- The numbers that go back to the host: the table of docs/IMAGE.md.
+-- The numbers of an answer, as they go back to a host: the table of docs/IMAGE.md.
 --
 -- "The host's C main loop calls event, tick, capture and apply16 on numbers". "A refusal carries no other value (zeros, no
 -- gesture, no log line)". "its numbers in the Rust's field order": a gesture is 1 and more, its place in the Rust's list of
@@ -12,9 +12,9 @@ use Rattle.gesture.specs.declared.lines.Log.{Log}
 use Rattle.gesture.specs.declared.lines.Log.the-variants.{Silent, Logged}
 use Rattle.gesture.specs.declared.answers.Given.{Given}
 use Rattle.gesture.specs.declared.answers.Given.the-variants.{Nothing, Gave}
-use Rattle.image.specs.declared.calls.AreaAnswer.{AreaAnswer}
-use Rattle.host.specs.declared.numbers.GestureNumbers.{GestureNumbers}
-use Rattle.host.specs.declared.numbers.LogNumbers.{LogNumbers}
+use Rattle.gesture.specs.declared.answers.Answer.{Answer}
+use Rattle.image.specs.declared.numbers.GestureNumbers.{GestureNumbers}
+use Rattle.image.specs.declared.numbers.LogNumbers.{LogNumbers}
 
 -- a gesture's code and its numbers, zero where it has no more
 abbrev pub coded : ℕ → ℕ → ℕ → ℕ → ℕ → ℕ → GestureNumbers
@@ -36,7 +36,7 @@ logNumbers (Logged l) = record { letter = l .letter; argument = l .argument; x =
 abbrev pub listed : GestureNumbers → LogNumbers → List ℕ
 listed g l = g .code ∷ g .a ∷ g .b ∷ g .c ∷ g .d ∷ g .e ∷ l .letter ∷ l .argument ∷ l .x ∷ l .y ∷ l .time ∷ []
 
-unfoldable pub numbersOf : AreaAnswer → List ℕ
+unfoldable pub numbersOf : Answer → List ℕ
 numbersOf a = listed (givenNumbers (a .gesture)) (logNumbers (a .log))
 
 -- what a refused call tells

@@ -1,8 +1,8 @@
--- `host::numbers::counted` meets its contract. Assumes nothing.
-use Rattle.host.specs.Numbers.{coded}
+-- `image::numbers::counted` meets its contract. Assumes nothing.
+use Rattle.image.specs.Numbers.{coded}
 use borrow.Author.Needs.{needs}
-use Rattle.host.proofs.numbers.counted.Statement.{statement}
-use Rattle.host.proofs.numbers.counted.Tie as tie
+use Rattle.image.proofs.numbers.counted.Statement.{statement}
+use Rattle.image.proofs.numbers.counted.Tie as tie
 
 wide8-requires : tie.Need-wide8-requires
 wide8-requires c κs = search needs

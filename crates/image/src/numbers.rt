@@ -1,10 +1,10 @@
 // An answer as numbers: the gesture's code and its own numbers, then the log line.
 ghost use mathlib.Core.Path.{_≡_};
-ghost use Rattle.host.specs.Numbers.{coded, gestureNumbers, givenNumbers, logNumbers, numbersOf};
+ghost use Rattle.image.specs.Numbers.{coded, gestureNumbers, givenNumbers, logNumbers, numbersOf};
+use gesture::Answer;
 use gesture::Gesture;
 use gesture::Given;
 use gesture::Log;
-use image::AreaAnswer;
 use panel::Point;
 
 pub const ANSWER_NUMBERS: usize = 11;
@@ -33,7 +33,7 @@ fn wide8(x: u8) -> u64
     x as u64
 }
 
-pub(crate) fn wide16(x: u16) -> u64
+fn wide16(x: u16) -> u64
     ensures { λ r. ⌜ r ≡ x ⌝ }
 {
     x as u64
@@ -162,7 +162,7 @@ fn log_numbers(log: Log) -> LogNumbers
     }
 }
 
-pub(crate) fn numbers_of(a: AreaAnswer) -> [u64; ANSWER_NUMBERS]
+pub(crate) fn numbers_of(a: Answer) -> [u64; ANSWER_NUMBERS]
     ensures { λ r. ⌜ r ≡ numbersOf a ⌝ }
 {
     let given = a.gesture;
