@@ -96,8 +96,5 @@ pub fn grab_ms(area: &[u8]) -> AreaGrab
             ms: s.grab_ms,
         };
     }
-    AreaGrab {
-        refusal: r,
-        ms: 0,
-    }
+    AreaGrab { refusal: r, ms: 0 }
 }
