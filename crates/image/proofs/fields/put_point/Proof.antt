@@ -5,7 +5,7 @@ use Prim.Native.Nat.{ℕ, _+_}
 use lib.Seq.{sets}
 use Rattle.image.specs.Rows.{bytesOf}
 use Rattle.image.specs.Image.{pointRows}
-use Rattle.image.specs.Puts.{puts}
+use Rattle.image.specs.code.Puts.{puts}
 use borrow.Author.Needs.{needs}
 use Rattle.image.proofs.fields.put_point.Statement.{statement}
 use Rattle.image.proofs.fields.put_point.Tie as tie
