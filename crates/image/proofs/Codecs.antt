@@ -15,7 +15,7 @@ use Rattle.gesture.specs.declared.record.Tracker.{Tracker}
 use Rattle.image.specs.Image.{imageOf, imageBytes}
 use Rattle.image.specs.code.Settings.{at-end}
 use Rattle.image.specs.code.Whole.{trackerAt, imageChecked}
-use Rattle.image.specs.code.Finding.{foundOf}
+use Rattle.image.specs.code.Finding.{unruledOf}
 use Rattle.image.specs.Typed.{Bytes}
 use Rattle.image.specs.Codec.{same, isImage, decodeOf, stored, encodeOf}
 use Rattle.image.specs.declared.codec.DecodeAnswer.{DecodeAnswer}
@@ -61,16 +61,16 @@ module _ (area : List ℕ) where
 -- The same, from what the code looked at.
 
 module _ (area : List ℕ) (long : length area ≡ at-end) (bytes : Bytes area) where
-  pub found-answers : (t : Tracker) → t ≡ trackerAt area → imageChecked area ≡ true → Answered t ≡ foundOf area
-  unfolding foundOf isImage
+  pub found-answers : (t : Tracker) → t ≡ trackerAt area → imageChecked area ≡ true → Answered t ≡ unruledOf area
+  unfolding unruledOf isImage
   found-answers t is passes = ap Answered is ∙ sym (if-true _ _ _ (ap (λ (l : List ℕ). same l area) (image-again area bytes long passes) ∙ same-self area))
 
-  pub found-fails : imageChecked area ≡ false → Refused State ≡ foundOf area
-  unfolding foundOf isImage
+  pub found-fails : imageChecked area ≡ false → Refused State ≡ unruledOf area
+  unfolding unruledOf isImage
   found-fails fails = sym (if-false _ _ _ (same-differ _ _ (λ e. true≢false (sym (image-passes (trackerAt area)) ∙ ap imageChecked e ∙ fails))))
 
-pub found-length : (area : List ℕ) → (length area ≡ at-end → ⊥) → Refused State ≡ foundOf area
-unfolding foundOf isImage
+pub found-length : (area : List ℕ) → (length area ≡ at-end → ⊥) → Refused State ≡ unruledOf area
+unfolding unruledOf isImage
 found-length area differ = sym (if-false _ _ _ (same-differ _ _ (λ e. differ (sym (ap length e) ∙ length-image (trackerAt area)))))
 
 -- Decoding, from what was found.
@@ -87,11 +87,11 @@ module _ (area : List ℕ) (t : Tracker) where
   abbrev Holds : DecodeAnswer → Type 0
   Holds d = Answered t ≡ d → (isImage area ≡ true) × (t ≡ trackerAt area)
 
-  found-holds : Answered t ≡ foundOf area → (isImage area ≡ true) × (t ≡ trackerAt area)
-  unfolding foundOf is-answered the-tracker
+  found-holds : Answered t ≡ unruledOf area → (isImage area ≡ true) × (t ≡ trackerAt area)
+  unfolding unruledOf is-answered the-tracker
   found-holds = if-know Holds _ (Answered (trackerAt area)) (Refused State) (λ yes e. (yes, ap (the-tracker t) e)) (λ other e. absurd (true≢false (ap is-answered e)))
 
-  module _ (is : Answered t ≡ foundOf area) where
+  module _ (is : Answered t ≡ unruledOf area) where
     pub found-long : length area ≡ at-end
     unfolding isImage
     found-long = sym (ap length (same-equal _ _ (found-holds is .0))) ∙ length-image (trackerAt area)
@@ -112,8 +112,8 @@ module _ (area : List ℕ) (why : Refusal) where
   abbrev Fails : DecodeAnswer → Type 0
   Fails d = Refused why ≡ d → Refused why ≡ decodeOf area
 
-  pub decode-fails : Refused why ≡ foundOf area → Refused why ≡ decodeOf area
-  unfolding foundOf decodeOf is-answered
+  pub decode-fails : Refused why ≡ unruledOf area → Refused why ≡ decodeOf area
+  unfolding unruledOf decodeOf is-answered
   decode-fails =
       if-know Fails _ (Answered (trackerAt area)) (Refused State)
       (λ yes e. absurd (true≢false (sym (ap is-answered e))))

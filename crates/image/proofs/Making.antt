@@ -14,7 +14,7 @@ use Rattle.panel.proofs.Follow.{if-true, if-false, if-know}
 use Rattle.panel.proofs.Laws.{and-right}
 use Rattle.gesture.specs.Answers as answers
 use Rattle.gesture.specs.Answers.{refused, eventOf, tickOf, captureOf, captureDirectOf, rawNextOf, setGrabOf}
-use Rattle.gesture.specs.Calls.{Call, report, tick, capture, captureDirect, rawNext, setGrabMs, answerOf, callBy, callOf}
+use Rattle.gesture.specs.Calls.{Call, report, tick, capture, captureDirect, rawNext, setGrabMs, answerOf, callOf}
 use Rattle.fingers.specs.declared.settings.Settings.{Settings}
 use Rattle.gesture.proofs.Promises.{call-tells, grab-tells}
 use Rattle.gesture.specs.States.{stateRule}
@@ -26,10 +26,10 @@ use Rattle.gesture.specs.declared.record.Tracker.{Tracker}
 use Rattle.image.specs.Image.{imageOf}
 use Rattle.image.specs.Codec.{decodeOf}
 use Rattle.image.specs.Numbers.{numbersOf, zeros}
-use Rattle.image.specs.Calls.{Left, left, finished, onDecoded, madeOn, grab, grabDecoded, grabOn}
+use Rattle.image.specs.Calls.{Left, left, finished, onDecoded, madeOn, plainCall, grab, grabDecoded, grabOn}
 use Rattle.image.specs.code.Settings.{at-end, settingsAt}
 use Rattle.image.specs.code.Whole.{trackerAt}
-use Rattle.image.specs.code.Finding.{foundOf}
+use Rattle.image.specs.code.Finding.{unruledOf}
 use Rattle.image.specs.declared.codec.DecodeAnswer.{DecodeAnswer}
 use Rattle.image.specs.declared.codec.DecodeAnswer.the-variants.{Answered, Refused}
 use Rattle.image.proofs.Codecs.{found-long, decode-keeps, decode-breaks, decode-fails, decode-length}
@@ -63,12 +63,12 @@ state-finished area t = refl
 
 -- A call on what was found.
 
-module _ (area : List ℕ) (d : DecodeAnswer) (found : d ≡ foundOf area) where
+module _ (area : List ℕ) (d : DecodeAnswer) (found : d ≡ unruledOf area) where
   pub held-length : (t : Tracker) → d ≡ Answered t → length area ≡ at-end
   held-length t e = found-long area t (sym e ∙ found)
 
   module _ (c : Call) where
-    by-rule : (t : Tracker) (b : Bool) → stateRule t ≡ b → Answered t ≡ foundOf area → finished area (answerOf t c) ≡ madeOn area c
+    by-rule : (t : Tracker) (b : Bool) → stateRule t ≡ b → Answered t ≡ unruledOf area → finished area (answerOf t c) ≡ madeOn area c
     unfolding madeOn onDecoded
     by-rule t true kept is = ap (λ (x : DecodeAnswer). onDecoded area x c) (decode-keeps area t is kept)
     by-rule t false broken is = ap (finished area) (broken-refused c t broken) ∙ state-finished area t ∙ ap (λ (x : DecodeAnswer). onDecoded area x c) (decode-breaks area t is broken)
@@ -112,10 +112,10 @@ module _ (area : List ℕ) where
   unfolding grabOn grabDecoded
   grab-length n e differ = ap (λ (k : ℕ). grab k 0) e ∙ ap grabDecoded (sym (decode-length area (λ same-bytes. differ (same-bytes ∙ bytes-end))))
 
-  module _ (held after out : List ℕ) (r : ℕ) (c : value.Call) (copy : held ≡ area) (is-capture : c .kind ≡ Capture) (made : left r after out ≡ madeOn held (callOf c)) where
+  module _ (held after out : List ℕ) (r : ℕ) (c : value.Call) (copy : held ≡ area) (is-capture : c ≡ plainCall Capture) (made : left r after out ≡ madeOn held (callOf c)) where
     same-number : r ≡ asked (decodeOf area)
     unfolding madeOn
-    same-number = ap (λ (l : Left). l .number) (made ∙ (λ i. madeOn (copy i) (callBy (is-capture i) (c .event))))
+    same-number = ap (λ (l : Left). l .number) (made ∙ (λ i. madeOn (copy i) (callOf (is-capture i))))
 
     pub grab-answered : (s : Settings) → s ≡ settingsAt area → r ≡ 0 → grab 0 (s .«grab_ms») ≡ grabOn area
     unfolding grabOn

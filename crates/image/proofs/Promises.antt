@@ -22,6 +22,8 @@ use Rattle.panel.specs.Axes as axes
 use Rattle.gesture.specs.declared.record.Touch.the-variants.{Down}
 use Rattle.gesture.specs.declared.record.MultiEnd.the-variants.{Never}
 use Rattle.gesture.specs.Calls.{Call}
+use Rattle.gesture.specs.declared.making.Call as value
+use Rattle.gesture.specs.declared.making.CallKind.{CallKind}
 use Rattle.gesture.specs.declared.record.Tracker.{Tracker}
 use Rattle.image.specs.Rows.{bytesOf, laid}
 use Rattle.image.specs.Image.{imageBytes, touchNumber, startOf, sinceOf, multiOf, pairingOf, pairNumber, pairOf, endNumber, endTime, lockNumber, pointRows, downRows, multiRows, pairRows, pairingRows, touchRows, fingerRows, oneRows, takenRows, endRows, keyRows, settingRows, table, imageOf}
@@ -29,7 +31,7 @@ use Rattle.image.specs.code.Settings.{at-end}
 use Rattle.image.specs.code.Whole.{trackerAt}
 use Rattle.image.specs.Typed.{Bytes, Typed}
 use Rattle.image.specs.Codec.{NoImage, Decodes, isImage, decodeOf, toldDecode, Stored, stored, encodeOf}
-use Rattle.image.specs.Calls.{Left, left, madeOn, grabOn}
+use Rattle.image.specs.Calls.{Left, left, madeOn, plainCall, grabOn}
 use Rattle.image.specs.declared.calls.AreaGrab.{AreaGrab}
 use Rattle.image.specs.declared.codec.DecodeAnswer.{DecodeAnswer}
 use Rattle.image.specs.declared.codec.DecodeAnswer.the-variants.{Answered, Refused}
@@ -140,6 +142,9 @@ decode-unique area = one-answer
 
 pub grab-unique : (area : List ℕ) {r s : AreaGrab} → r ≡ grabOn area → s ≡ grabOn area → r ≡ s
 grab-unique area = one-answer
+
+pub plain-unique : (kind : CallKind) {r s : value.Call} → r ≡ plainCall kind → s ≡ plainCall kind → r ≡ s
+plain-unique kind = one-answer
 
 pub make-unique : (area : List ℕ) (c : Call) (r s : ℕ) (a b out told : List ℕ) → left r a out ≡ madeOn area c → left s b told ≡ madeOn area c → (r ≡ s) × (a ≡ b) × (out ≡ told)
 make-unique area c r s a b out told p q =

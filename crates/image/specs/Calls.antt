@@ -7,11 +7,15 @@
 -- What comes back is a refusal number, or 0, the area, which holds the tracker, and the numbers of the answer.
 use Prim.Native.Nat.{ℕ}
 use mathlib.Core.List.{List}
+use lib.ListN.{replicate}
 use Rattle.panel.specs.Tests.{if_then_else_, _=?_}
 use Rattle.panel.specs.Refusals.{numberOf}
 use Rattle.gesture.specs.Answers.{grabOf}
 use Rattle.gesture.specs.Calls.{Call, answerOf}
+use Rattle.gesture.specs.Trackers.{origin}
 use Rattle.gesture.specs.declared.answers.Answer.{Answer}
+use Rattle.gesture.specs.declared.making.Call as value
+use Rattle.gesture.specs.declared.making.CallKind.{CallKind}
 use Rattle.image.specs.Image.{imageOf}
 use Rattle.image.specs.Codec.{decodeOf}
 use Rattle.image.specs.Numbers.{numbersOf, zeros}
@@ -37,6 +41,11 @@ onDecoded area (Refused why) c = left (numberOf why) area zeros
 
 unfoldable pub madeOn : List ℕ → Call → Left
 madeOn area c = onDecoded area (decodeOf area) c
+
+-- A call without a report: what stands in its place is not looked at.
+
+abbrev pub plainCall : CallKind → value.Call
+plainCall kind = record { kind = kind; event = record { points = 0; p = origin; pts = replicate 5 origin; keys = 0 } }
 
 -- The grab time, which alters nothing.
 

@@ -7,7 +7,7 @@
 ghost use mathlib.Core.Path.{_≡_};
 ghost use lib.ListN.{length};
 ghost use Rattle.gesture.specs.Calls.{callOf};
-ghost use Rattle.image.specs.Calls.{left, finished, madeOn, grabOn};
+ghost use Rattle.image.specs.Calls.{left, finished, madeOn, plainCall, grabOn};
 ghost use Rattle.image.specs.code.Settings.{at-end};
 use crate::codec;
 use crate::codec::DecodeAnswer;
@@ -60,7 +60,7 @@ pub fn make(area: &mut [u8], c: Call, out: &mut [u64; ANSWER_NUMBERS]) -> u8
 
 // A call without a report.
 pub fn plain(kind: CallKind) -> Call
-    ensures { λ r. ⌜ r .kind ≡ kind ⌝ }
+    ensures { λ r. ⌜ r ≡ plainCall kind ⌝ }
 {
     let o = Point { x: 0, y: 0 };
     Call {

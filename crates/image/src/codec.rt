@@ -3,7 +3,7 @@
 ghost use mathlib.Core.Path.{_≡_};
 ghost use Rattle.gesture.specs.Trackers.{freshTracker};
 ghost use Rattle.image.specs.Codec.{decodeOf, stored, encodeOf};
-ghost use Rattle.image.specs.code.Finding.{foundOf};
+ghost use Rattle.image.specs.code.Finding.{unruledOf};
 use crate::settings::IMAGE_BYTES;
 use crate::whole;
 use gesture::Tracker;
@@ -16,7 +16,7 @@ pub enum DecodeAnswer {
 
 // The tracker whose image the area is, also one that breaks the state rule.
 pub(crate) fn unruled(area: &[u8]) -> DecodeAnswer
-    ensures { λ r. ⌜ r ≡ foundOf (now (area .entry)) ⌝ }
+    ensures { λ r. ⌜ r ≡ unruledOf (now (area .entry)) ⌝ }
 {
     if area.len() == IMAGE_BYTES {
         if whole::is_image(area) {

@@ -72,7 +72,8 @@ fn rest_checked(image: &[u8]) -> bool
 }
 
 // Whether an area of the image's length is an image: a number that has few values has one of them, and a part that is
-// absent is zero. Every other number stands for itself.
+// absent is zero. Every other number stands for itself. Here and in the parts tests are joined by ifs inside one another:
+// of these the compiler makes flags, of `&` jumps.
 pub(crate) fn is_image(image: &[u8]) -> bool
     requires { ⌜ length (now image) ≡ at-end ⌝ }
     ensures { λ r. ⌜ r ≡ imageChecked (now (image .entry)) ⌝ }

@@ -9,5 +9,5 @@ use Rattle.image.specs.code.Whole.{trackerAt}
 use Rattle.image.specs.declared.codec.DecodeAnswer.{DecodeAnswer}
 use Rattle.image.specs.declared.codec.DecodeAnswer.the-variants.{Answered, Refused}
 
-unfoldable pub foundOf : List ℕ → DecodeAnswer
-foundOf area = if isImage area then Answered (trackerAt area) else Refused State
+unfoldable pub unruledOf : List ℕ → DecodeAnswer
+unruledOf area = if isImage area then Answered (trackerAt area) else Refused State

@@ -21,11 +21,15 @@ same-length c = search needs
 
 returns : tie.Need-returns
 returns c =
+    let after-put8 = c .before .before in
+    let after-end-time = after-put8 .before in
+    let after-put1 = after-end-time .before .before .before .before in
+    let after-end-number = after-put1 .before in
     end-put _ _ _ _ _ _
-    (c .before .before .before .before .before .before .before .before .end-number .ensures)
-    (c .before .before .before .before .before .before .before .put1 .ensures)
-    (c .before .before .before .end-time .ensures)
-    (c .before .before .put8 .ensures)
+    (after-end-number .end-number .ensures)
+    (after-put1 .put1 .ensures)
+    (after-end-time .end-time .ensures)
+    (after-put8 .put8 .ensures)
 
 pub put-end-spec : {M : Type 1} → statement M
 put-end-spec =

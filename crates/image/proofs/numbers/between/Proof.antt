@@ -20,7 +20,13 @@ wide8-requires : tie.Need-wide8-requires
 wide8-requires c κs = search needs
 
 returns : tie.Need-returns
-returns c = λ i. coded (c .before .before .before .before .before .args .code) (c .before .before .before .before .wide16 .ensures i) (c .before .before .before .wide162 .ensures i) (c .before .before .wide163 .ensures i) (c .before .wide164 .ensures i) (c .wide8 .ensures i)
+returns c =
+    let after-wide164 = c .before in
+    let after-wide163 = after-wide164 .before in
+    let after-wide162 = after-wide163 .before in
+    let after-wide16 = after-wide162 .before in
+    let at-start = after-wide16 .before in
+    λ i. coded (at-start .args .code) (after-wide16 .wide16 .ensures i) (after-wide162 .wide162 .ensures i) (after-wide163 .wide163 .ensures i) (after-wide164 .wide164 .ensures i) (c .wide8 .ensures i)
 
 pub between-spec : {M : Type 1} → statement M
 between-spec =

@@ -30,8 +30,12 @@ returns c = sym (ap logNumbers (c .enum-told .given .1))
 returns-2 : tie.Need-returns-2
 unfolding logNumbers
 returns-2 c =
-    let l = c .before .before .before .before .before .before .log .given .0 .0 in
-    (λ i. record { letter = c .before .before .before .wide8 .ensures i; argument = c .before .before .wide82 .ensures i; x = c .before .wide16 .ensures i; y = c .wide162 .ensures i; time = l .time }) ∙ sym (ap logNumbers (c .before .before .before .before .before .before .log .given .1))
+    let after-wide16 = c .before in
+    let after-wide82 = after-wide16 .before in
+    let after-wide8 = after-wide82 .before in
+    let after-log = after-wide8 .before .before .before in
+    let l = after-log .log .given .0 .0 in
+    (λ i. record { letter = after-wide8 .wide8 .ensures i; argument = after-wide82 .wide82 .ensures i; x = after-wide16 .wide16 .ensures i; y = c .wide162 .ensures i; time = l .time }) ∙ sym (ap logNumbers (after-log .log .given .1))
 
 pub log-numbers-spec : {M : Type 1} → statement M
 log-numbers-spec =

@@ -29,11 +29,19 @@ get2-requires c κs = search needs
 
 returns : tie.Need-returns
 unfolding noMulti isZero
-returns c = search (follow, ← c .get2 .ensures, ← c .before .before .is-zero83 .ensures, ← c .before .before .before .before .is-zero82 .ensures, ← c .before .before .before .before .before .before .is-zero8 .ensures)
+returns c =
+    let after-is-zero83 = c .before .before in
+    let after-is-zero82 = after-is-zero83 .before .before in
+    let after-is-zero8 = after-is-zero82 .before .before in
+    search (follow, ← c .get2 .ensures, ← after-is-zero83 .is-zero83 .ensures, ← after-is-zero82 .is-zero82 .ensures, ← after-is-zero8 .is-zero8 .ensures)
 
 returns-2 : tie.Need-returns-2
 unfolding noMulti
-returns-2 c = search (follow, ← c .before .is-zero83 .ensures, ← c .before .before .before .is-zero82 .ensures, ← c .before .before .before .before .before .is-zero8 .ensures)
+returns-2 c =
+    let after-is-zero83 = c .before in
+    let after-is-zero82 = after-is-zero83 .before .before in
+    let after-is-zero8 = after-is-zero82 .before .before in
+    search (follow, ← after-is-zero83 .is-zero83 .ensures, ← after-is-zero82 .is-zero82 .ensures, ← after-is-zero8 .is-zero8 .ensures)
 
 returns-3 : tie.Need-returns-3
 unfolding noMulti

@@ -28,7 +28,14 @@ get1-requires-2 c κs = search needs
 
 returns : tie.Need-returns
 unfolding pairAt
-returns c = λ i. record { a = c .before .before .before .before .before .before .get-point .ensures i; b = c .before .before .before .before .before .get-point2 .ensures i; axis = (c .before .before .before .axis-from .ensures ∙ ap axisFrom (c .before .before .before .before .get1 .ensures)) i; span0 = c .before .before .get2 .ensures i; c0 = c .before .get-point3 .ensures i; state = c .get12 .ensures i }
+returns c =
+    let after-get-point3 = c .before in
+    let after-get2 = after-get-point3 .before in
+    let after-axis-from = after-get2 .before in
+    let after-get1 = after-axis-from .before in
+    let after-get-point2 = after-get1 .before in
+    let after-get-point = after-get-point2 .before in
+    λ i. record { a = after-get-point .get-point .ensures i; b = after-get-point2 .get-point2 .ensures i; axis = (after-axis-from .axis-from .ensures ∙ ap axisFrom (after-get1 .get1 .ensures)) i; span0 = after-get2 .get2 .ensures i; c0 = after-get-point3 .get-point3 .ensures i; state = c .get12 .ensures i }
 
 pub pair-at-spec : {M : Type 1} → statement M
 pair-at-spec =

@@ -15,9 +15,11 @@ same-length c = search needs
 
 returns : tie.Need-returns
 returns c =
+    let after-put8 = c .before .before in
+    let after-put-point = after-put8 .before .before .before .before in
     down-put _ _ _ _ _
-    (c .before .before .before .before .before .before .put-point .ensures)
-    (c .before .before .put8 .ensures)
+    (after-put-point .put-point .ensures)
+    (after-put8 .put8 .ensures)
 
 pub put-down-spec : {M : Type 1} → statement M
 put-down-spec = tie.close (tie.spec put-point-requires put8-requires same-length returns)

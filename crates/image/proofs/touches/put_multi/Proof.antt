@@ -24,12 +24,17 @@ same-length c = search needs
 
 returns : tie.Need-returns
 returns c =
+    let after-put82 = c .before .before in
+    let after-put-point2 = after-put82 .before .before .before .before in
+    let after-put8 = after-put-point2 .before .before .before .before in
+    let after-put-point = after-put8 .before .before .before .before in
+    let after-put1 = after-put-point .before .before .before .before in
     multi-put _ _ _ _ _ _ _
-    (c .before .before .before .before .before .before .before .before .before .before .before .before .before .before .before .before .before .before .put1 .ensures)
-    (c .before .before .before .before .before .before .before .before .before .before .before .before .before .before .put-point .ensures)
-    (c .before .before .before .before .before .before .before .before .before .before .put8 .ensures)
-    (c .before .before .before .before .before .before .put-point2 .ensures)
-    (c .before .before .put82 .ensures)
+    (after-put1 .put1 .ensures)
+    (after-put-point .put-point .ensures)
+    (after-put8 .put8 .ensures)
+    (after-put-point2 .put-point2 .ensures)
+    (after-put82 .put82 .ensures)
 
 pub put-multi-spec : {M : Type 1} → statement M
 put-multi-spec =

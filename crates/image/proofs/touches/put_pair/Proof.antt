@@ -30,14 +30,21 @@ same-length c = search needs
 
 returns : tie.Need-returns
 returns c =
+    let after-put12 = c .before .before in
+    let after-put-point3 = after-put12 .before .before .before .before in
+    let after-put2 = after-put-point3 .before .before .before .before in
+    let after-put1 = after-put2 .before .before .before .before in
+    let after-put-point2 = after-put1 .before .before .before .before in
+    let after-put-point = after-put-point2 .before .before .before .before in
+    let after-axis-number = after-put-point .before .before in
     pair-put _ _ _ _ _ _ _ _ _
-    (c .before .before .before .before .before .before .before .before .before .before .before .before .before .before .before .before .before .before .before .before .before .before .put-point .ensures)
-    (c .before .before .before .before .before .before .before .before .before .before .before .before .before .before .before .before .before .before .put-point2 .ensures)
-    (c .before .before .before .before .before .before .before .before .before .before .before .before .before .before .before .before .before .before .before .before .before .before .before .before .axis-number .ensures)
-    (c .before .before .before .before .before .before .before .before .before .before .before .before .before .before .put1 .ensures)
-    (c .before .before .before .before .before .before .before .before .before .before .put2 .ensures)
-    (c .before .before .before .before .before .before .put-point3 .ensures)
-    (c .before .before .put12 .ensures)
+    (after-put-point .put-point .ensures)
+    (after-put-point2 .put-point2 .ensures)
+    (after-axis-number .axis-number .ensures)
+    (after-put1 .put1 .ensures)
+    (after-put2 .put2 .ensures)
+    (after-put-point3 .put-point3 .ensures)
+    (after-put12 .put12 .ensures)
 
 pub put-pair-spec : {M : Type 1} → statement M
 put-pair-spec =

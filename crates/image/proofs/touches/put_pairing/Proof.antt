@@ -23,7 +23,11 @@ same-length : tie.Need-same-length
 same-length c = search needs
 
 returns-2 : tie.Need-returns-2
-returns-2 c = paired-put _ _ _ _ _ (c .before .before .before .before .before .before .before .before .before .pair .given .1) (c .before .before .before .before .before .before .put1 .ensures) (c .before .before .put-pair .ensures)
+returns-2 c =
+    let after-put-pair = c .before .before in
+    let after-put1 = after-put-pair .before .before .before .before in
+    let after-pair = after-put1 .before .before .before in
+    paired-put _ _ _ _ _ (after-pair .pair .given .1) (after-put1 .put1 .ensures) (after-put-pair .put-pair .ensures)
 
 pub put-pairing-spec : {M : Type 1} → statement M
 put-pairing-spec =

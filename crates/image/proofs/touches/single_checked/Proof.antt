@@ -20,7 +20,10 @@ no-down-requires c κs = search needs
 
 returns-2 : tie.Need-returns-2
 unfolding singleChecked
-returns-2 c = search (follow, ← c .no-down .ensures, ← c .before .before .before .no-pair .ensures, ← c .before .before .before .before .before .no-multi .ensures)
+returns-2 c =
+    let after-no-pair = c .before .before .before in
+    let after-no-multi = after-no-pair .before .before in
+    search (follow, ← c .no-down .ensures, ← after-no-pair .no-pair .ensures, ← after-no-multi .no-multi .ensures)
 
 returns-3 : tie.Need-returns-3
 unfolding singleChecked

@@ -30,7 +30,10 @@ pairing-at-requires c κs = search needs
 
 returns-3 : tie.Need-returns-3
 unfolding touchFrom touchAt
-returns-3 c = search (follow, ← c .pairing-at .ensures, ← c .before .multi-at .ensures, ← c .before .before .before .before .before .get1 .ensures)
+returns-3 c =
+    let after-multi-at = c .before in
+    let after-get1 = after-multi-at .before .before .before .before in
+    search (follow, ← c .pairing-at .ensures, ← after-multi-at .multi-at .ensures, ← after-get1 .get1 .ensures)
 
 returns-4 : tie.Need-returns-4
 unfolding touchFrom touchAt

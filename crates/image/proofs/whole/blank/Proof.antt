@@ -17,7 +17,10 @@ same-length : tie.Need-same-length
 same-length c = search needs
 
 returns : tie.Need-returns
-returns c = c .before .before .copy .ensures .1 ∙ copied (replicate at-end 0) (c .before .before .before .before .before .before .args .image .now) (sym (c .before .before .before .before .before .before .pre))
+returns c =
+    let after-copy = c .before .before in
+    let at-start = after-copy .before .before .before .before in
+    after-copy .copy .ensures .1 ∙ copied (replicate at-end 0) (at-start .args .image .now) (sym (at-start .pre))
 
 pub blank-spec : {M : Type 1} → statement M
 blank-spec = tie.close (tie.spec slice-aggregate-copy copy-requires same-length returns)

@@ -39,7 +39,8 @@ returns c =
     let after-put-finger = after-put-end .before .before .before .before in
     let after-put-touch = after-put-finger .before .before .before .before in
     let after-blank = after-put-touch .before .before .before .before in
-    let at-start = after-blank .before .before .before .before .before .before .before in
+    let after-app = after-blank .before .before .before .before in
+    let at-start = after-app .before .before .before in
     image-put _ _ _ _ _ _ (after-put-touch .put-touch .ensures ∙ ap (λ (l : List ℕ). puts l at-touch (touchRows (at-start .args .t .touch))) (after-blank .blank .ensures)) (after-put-finger .put-finger .ensures) (after-put-end .put-end .ensures) (after-put-keys .put-keys .ensures) (after-put-settings .put-settings .ensures)
 
 pub put-tracker-spec : {M : Type 1} → statement M

@@ -19,11 +19,19 @@ settings-checked-requires c κs = search needs
 
 returns : tie.Need-returns
 unfolding restChecked
-returns c = search (follow, ← c .settings-checked .ensures, ← c .before .before .end-checked .ensures, ← c .before .before .before .before .app-checked .ensures, ← c .before .before .before .before .before .before .one-checked .ensures)
+returns c =
+    let after-end-checked = c .before .before in
+    let after-app-checked = after-end-checked .before .before in
+    let after-one-checked = after-app-checked .before .before in
+    search (follow, ← c .settings-checked .ensures, ← after-end-checked .end-checked .ensures, ← after-app-checked .app-checked .ensures, ← after-one-checked .one-checked .ensures)
 
 returns-2 : tie.Need-returns-2
 unfolding restChecked
-returns-2 c = search (follow, ← c .before .end-checked .ensures, ← c .before .before .before .app-checked .ensures, ← c .before .before .before .before .before .one-checked .ensures)
+returns-2 c =
+    let after-end-checked = c .before in
+    let after-app-checked = after-end-checked .before .before in
+    let after-one-checked = after-app-checked .before .before in
+    search (follow, ← after-end-checked .end-checked .ensures, ← after-app-checked .app-checked .ensures, ← after-one-checked .one-checked .ensures)
 
 returns-3 : tie.Need-returns-3
 unfolding restChecked
