@@ -1,6 +1,5 @@
--- What the crates above may cite: `Promises`, what the calls promise. The other modules serve this crate's own proofs: how
--- a call is made of decoding, the tracker's call and storing.
-mod Hosting
-mod Coding
+-- What the crates above may cite: `Promises`, what the calls promise. The other modules serve this crate's own proofs: a call
+-- from what image answered, and a point through a calibration.
+mod Answering
 mod Applying
 pub mod Promises

@@ -1,68 +1,38 @@
 -- The calls of the host on the area that holds the tracker.
 --
--- "The host's C main loop calls event, tick, capture and apply16 on numbers and one lent byte area that holds the tracker.
--- One tracker has one image ..; any other area, too short or long included, is STATE." "A refusal carries no other value
--- (zeros, no gesture, no log line) and alters nothing."
---
--- What comes back is a refusal number, or 0, the area, and the numbers of the answer.
+-- "The host's C main loop calls event, tick, capture and apply16 on numbers and one lent byte area that holds the tracker."
+-- What a call on an area comes to, and the numbers that go back, is said by the crate image (Calls, Numbers): the contracts
+-- cite its `madeOn`. Here are the report that the numbers of a call are, and what the two others give.
 use Prim.Native.Nat.{ℕ}
 use mathlib.Core.List.{List, [], _∷_}
 use lib.IntN.{ℤ, pos}
-use Rattle.panel.specs.Tests.{if_then_else_, _=?_}
 use Rattle.panel.specs.Refusals.{numberOf}
 use Rattle.panel.specs.declared.points.Point.{Point}
 use Rattle.panel.specs.declared.points.Event.{Event}
 use Rattle.calmap.specs.declared.mapping.ApplyAnswer.{ApplyAnswer}
 use Rattle.calmap.specs.declared.mapping.ApplyAnswer.the-variants as apply
 use Rattle.calmap.specs.declared.units.Cal.{Cal}
-use Rattle.gesture.specs.Answers.{grabOf}
-use Rattle.gesture.specs.declared.answers.Answer.{Answer}
-use Rattle.gesture.specs.declared.answers.GrabAnswer.{GrabAnswer}
-use Rattle.gesture.specs.declared.record.Tracker.{Tracker}
-use Rattle.image.specs.Image.{imageOf}
-use Rattle.image.specs.Codec.{decodeOf}
-use Rattle.image.specs.declared.codec.DecodeAnswer.{DecodeAnswer}
-use Rattle.image.specs.declared.codec.DecodeAnswer.the-variants.{Answered, Refused}
-use Rattle.host.specs.Numbers.{numbersOf, zeros}
+use Rattle.image.specs.Calls.{grabOn}
 
-pub record Hosted : Type 0 where
+-- The grab time alone: a refusal number, or 0, and one number. The area is lent to be read only.
+
+pub record GrabTold : Type 0 where
   pub number : ℕ
-  pub area : List ℕ
   pub out : List ℕ
 
-abbrev pub host : ℕ → List ℕ → List ℕ → Hosted
-host number area out = record { number = number; area = area; out = out }
+abbrev pub grabTold : ℕ → List ℕ → GrabTold
+grabTold number out = record { number = number; out = out }
 
--- the area becomes the image of the tracker that the call leaves; a refused call leaves it
-unfoldable pub finished : List ℕ → Answer → Hosted
-finished area a = if a .refusal =? 0 then host 0 (imageOf (a .tracker)) (numbersOf a) else host (a .refusal) area zeros
-
--- a call on the tracker that the area holds
-unfoldable pub onDecoded : List ℕ → DecodeAnswer → (Tracker → Answer) → Hosted
-onDecoded area (Answered t) call = finished area (call t)
-onDecoded area (Refused why) call = host (numberOf why) area zeros
-
-unfoldable pub hosted : List ℕ → (Tracker → Answer) → Hosted
-hosted area call = onDecoded area (decodeOf area) call
-
--- the grab time alters nothing
-unfoldable pub grabFinished : List ℕ → GrabAnswer → Hosted
-grabFinished area g = host (g .answer .refusal) area (g .ms ∷ [])
-
-unfoldable pub grabDecoded : List ℕ → DecodeAnswer → Hosted
-grabDecoded area (Answered t) = grabFinished area (grabOf t)
-grabDecoded area (Refused why) = host (numberOf why) area (0 ∷ [])
-
-unfoldable pub grabHosted : List ℕ → Hosted
-grabHosted area = grabDecoded area (decodeOf area)
+unfoldable pub grabHosted : List ℕ → GrabTold
+grabHosted area = grabTold (grabOn area .refusal) (grabOn area .ms ∷ [])
 
 -- The report that the numbers of a call are.
 
 abbrev pub point : ℕ → ℕ → Point
 point x y = record { x = x; y = y }
 
-unfoldable pub reportOf : ℕ → ℕ → Point → Point → Point → Point → Point → Point → Event
-reportOf keys count p p0 p1 p2 p3 p4 = record { points = count; p = p; pts = p0 ∷ p1 ∷ p2 ∷ p3 ∷ p4 ∷ []; keys = keys }
+abbrev pub reportOf : ℕ → ℕ → Point → List Point → Event
+reportOf keys count p pts = record { points = count; p = p; pts = pts; keys = keys }
 
 -- A point through a calibration: a refusal number, or 0, and two numbers.
 

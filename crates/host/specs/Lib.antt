@@ -1,5 +1,2 @@
--- What a reader must believe about the calls of the host: the numbers that go back, and each call. Calling says how the
--- code passes a call on.
-pub mod Numbers
+-- What a reader must believe about the calls of the host, beside what image has on calls on an area.
 pub mod Hosts
-pub mod Calling

@@ -2,7 +2,7 @@
 ghost use mathlib.Core.Path.{_≡_};
 ghost use Rattle.calmap.specs.Maps.{applyOf};
 ghost use Rattle.host.specs.Hosts.{applied, calOf, appliedBy};
-use crate::making;
+use crate::widths;
 use calmap::ApplyAnswer;
 use calmap::Cal;
 use calmap::Q16;
@@ -40,7 +40,7 @@ pub extern "C" fn touch_apply16(
         }
         ApplyAnswer::Refused(why) => {
             *out = [0, 0];
-            making::number_of(why)
+            widths::number_of(why)
         }
     }
 }

@@ -2,8 +2,7 @@
 // a refusal number, or 0; the numbers of the answer go into an array that the caller lends. docs/IMAGE.md has both.
 mod calibration;
 mod calls;
-mod making;
-mod numbers;
+mod widths;
 
 pub use calibration::touch_apply16;
 pub use calls::touch_capture;
@@ -14,4 +13,4 @@ pub use calls::touch_grab_ms;
 pub use calls::touch_raw_next;
 pub use calls::touch_set_grab_ms;
 pub use calls::touch_tick;
-pub use numbers::ANSWER_NUMBERS;
+pub use image::ANSWER_NUMBERS;

@@ -11,14 +11,15 @@ use Rattle.fingers.specs.declared.pair.Pairing.{Pairing}
 use Rattle.fingers.specs.declared.pair.Pairing.the-variants.{Unpaired, Paired}
 use Rattle.gesture.specs.declared.record.Touch.{Touch}
 use Rattle.gesture.specs.declared.record.Touch.the-variants as touch
-use Rattle.gesture.specs.Lines.{axisNumber}
+use Rattle.panel.specs.Axes.{axisNumber}
 use Rattle.image.specs.Rows.{bytesOf}
-use Rattle.image.specs.Image.{imageBytes, touchNumber, startOf, sinceOf, multiOf, pairingOf, pairNumber, pairOf, pointRows, downRows, multiRows, pairRows, pairingRows, touchRows}
-use Rattle.image.specs.Places.{at-touch, at-start, at-most, at-pairs, at-pair-a}
-use Rattle.image.specs.Puts.{puts}
+use Rattle.image.specs.Image.{touchNumber, startOf, sinceOf, multiOf, pairingOf, pairNumber, pairOf, pointRows, downRows, multiRows, pairRows, pairingRows, touchRows}
+use Rattle.image.specs.code.Puts.{puts}
+use Rattle.image.specs.code.Touches.{at-touch, at-start, at-multi-n, at-pairs, at-pair-a}
+use Rattle.image.specs.code.Settings.{at-end}
 
 abbrev pub blank : List ℕ
-blank = replicate imageBytes 0
+blank = replicate at-end 0
 
 -- an image of which only the touch's number is written
 abbrev pub marked : ℕ → List ℕ
@@ -32,7 +33,7 @@ down : (start : Point) (since : ℕ) → puts blank at-touch (touchRows (touch.D
 unfolding puts bytesOf touchNumber startOf sinceOf multiOf pairingOf pairNumber pairOf pointRows downRows multiRows pairRows pairingRows touchRows axisNumber
 down start since = refl
 
-multi : (m : Multi) (pair : Pairing) → puts blank at-touch (touchRows (touch.Multi m pair)) ≡ puts (puts (marked 2) at-most (multiRows m)) at-pairs (pairingRows pair)
+multi : (m : Multi) (pair : Pairing) → puts blank at-touch (touchRows (touch.Multi m pair)) ≡ puts (puts (marked 2) at-multi-n (multiRows m)) at-pairs (pairingRows pair)
 unfolding puts bytesOf touchNumber startOf sinceOf multiOf pairingOf pointRows downRows multiRows pairRows pairingRows touchRows
 multi m pair = refl
 
@@ -40,7 +41,7 @@ residual : puts blank at-touch (touchRows touch.Residual) ≡ marked 3
 unfolding puts bytesOf touchNumber startOf sinceOf multiOf pairingOf pairNumber pairOf pointRows downRows multiRows pairRows pairingRows touchRows axisNumber
 residual = refl
 
-unpaired : (m : Multi) → puts (puts (marked 2) at-most (multiRows m)) at-pairs (pairingRows Unpaired) ≡ puts (marked 2) at-most (multiRows m)
+unpaired : (m : Multi) → puts (puts (marked 2) at-multi-n (multiRows m)) at-pairs (pairingRows Unpaired) ≡ puts (marked 2) at-multi-n (multiRows m)
 unfolding puts bytesOf pairNumber pairOf pointRows multiRows pairRows pairingRows axisNumber
 unpaired m = refl
 
@@ -67,9 +68,9 @@ module _ (x : Touch) (a0 : List ℕ) (zero : a0 ≡ blank) where
   pub down-put : (start : Point) (since : ℕ) (a1 a2 : List ℕ) → x ≡ touch.Down start since → a1 ≡ sets a0 at-touch (bytesOf 1 1) → a2 ≡ puts a1 at-start (downRows start since) → a2 ≡ puts a0 at-touch (touchRows x)
   down-put start since a1 a2 e h1 h2 = h2 ∙ ap (λ (l : List ℕ). puts l at-start (downRows start since)) (mark 1 a1 h1) ∙ sym (down start since) ∙ with-rows (touch.Down start since) e
 
-  module _ (m : Multi) (a1 a2 : List ℕ) (h1 : a1 ≡ sets a0 at-touch (bytesOf 1 2)) (h2 : a2 ≡ puts a1 at-most (multiRows m)) where
-    several : a2 ≡ puts (marked 2) at-most (multiRows m)
-    several = h2 ∙ ap (λ (l : List ℕ). puts l at-most (multiRows m)) (mark 2 a1 h1)
+  module _ (m : Multi) (a1 a2 : List ℕ) (h1 : a1 ≡ sets a0 at-touch (bytesOf 1 2)) (h2 : a2 ≡ puts a1 at-multi-n (multiRows m)) where
+    several : a2 ≡ puts (marked 2) at-multi-n (multiRows m)
+    several = h2 ∙ ap (λ (l : List ℕ). puts l at-multi-n (multiRows m)) (mark 2 a1 h1)
 
     pub no-pair-yet : puts a2 at-pairs (pairingRows Unpaired) ≡ a2
     no-pair-yet = ap (λ (l : List ℕ). puts l at-pairs (pairingRows Unpaired)) several ∙ unpaired m ∙ sym several

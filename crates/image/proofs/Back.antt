@@ -13,40 +13,43 @@ use Rattle.panel.specs.declared.axes.Axis.the-variants.{H, «V»}
 use Rattle.panel.specs.declared.axes.AxisLock.{AxisLock}
 use Rattle.panel.specs.declared.axes.AxisLock.the-variants.{Free, On}
 use Rattle.fingers.specs.declared.one.One.{One}
+use Rattle.fingers.specs.declared.one.App.{App}
 use Rattle.fingers.specs.declared.several.Multi.{Multi}
 use Rattle.fingers.specs.declared.pair.Pair.{Pair}
 use Rattle.fingers.specs.declared.pair.Pairing.{Pairing}
 use Rattle.fingers.specs.declared.pair.Pairing.the-variants.{Unpaired, Paired}
 use Rattle.panel.proofs.Follow.{if-all}
-use Rattle.gesture.specs.Lines as lines
-use Rattle.gesture.specs.Lines.{axisNumber, bit}
+use Rattle.panel.specs.Axes as axes
+use Rattle.panel.specs.Axes.{axisNumber}
 use Rattle.gesture.specs.Trackers.{origin}
 use Rattle.gesture.specs.declared.record.Touch.{Touch}
 use Rattle.gesture.specs.declared.record.Touch.the-variants as touch
 use Rattle.gesture.specs.declared.record.MultiEnd.{MultiEnd}
 use Rattle.gesture.specs.declared.record.MultiEnd.the-variants.{Never, At}
 use Rattle.gesture.specs.declared.record.Tracker.{Tracker}
-use Rattle.image.specs.Image.{touchNumber, startOf, sinceOf, multiOf, pairingOf, pairNumber, pairOf, endNumber, endTime, lockNumber, zeroMulti, zeroPair, pointRows, downRows, multiRows, pairRows, pairingRows, touchRows, oneRows, endRows, settingRows, table, imageOf}
-use Rattle.image.specs.Rows.{row}
-use Rattle.image.specs.Places.{at-touch, at-last, at-ended, at-keys}
-use Rattle.image.specs.Reading.{pointAt, flagFrom, axisFrom, lockFrom, pairingFrom, touchFrom, endFrom, multiAt, pairAt, touchAt, oneAt, trackerAt}
+use Rattle.image.specs.Image.{touchNumber, startOf, sinceOf, multiOf, pairingOf, pairNumber, pairOf, endNumber, endTime, lockNumber, zeroMulti, zeroPair, pointRows, downRows, multiRows, pairRows, pairingRows, touchRows, fingerRows, oneRows, takenRows, endRows, keyRows, settingRows, table, imageOf}
+use Rattle.image.specs.Rows.{row, total}
+use Rattle.image.specs.code.Numbers.{pointAt, flagFrom}
+use Rattle.image.specs.code.Touches.{at-touch, axisFrom, pairingFrom, touchFrom, multiAt, pairAt, touchAt}
+use Rattle.image.specs.code.Finger.{at-last, lockFrom, oneAt, appAt}
+use Rattle.image.specs.code.Ended.{at-ended, endFrom, endAt}
+use Rattle.image.specs.code.Keys.{at-told, keysAt}
+use Rattle.image.specs.code.Settings.{at-grab}
+use Rattle.image.specs.code.Whole.{trackerAt}
 use Rattle.image.specs.Typed.{Byte, Time, Bytes, TypedPoint, TypedMulti, TypedPair, TypedPairing, TypedTouch, TypedOne, TypedEnd, Typed}
-use Rattle.image.proofs.Layouts.{total, Fits, fits-join, numbersAt, numbersIn, part-back, number-fits}
+use Rattle.image.proofs.Flags.{bit-fits, bit-back}
+use Rattle.image.proofs.SettingLaws.{settings-fit, settings-same, settings-typed}
+use Rattle.image.proofs.Layouts.{Fits, fits-join, numbersAt, numbersIn, part-back, number-fits}
 
 -- Each number of a part fits its row.
 
-bit-fits : (b : Bool) → bit b < 256
-unfolding lines.bit
-bit-fits true = lit< tt
-bit-fits false = lit< tt
-
 axis-fits : (a : Axis) → axisNumber a < 256
-unfolding lines.axisNumber
+unfolding axes.axisNumber
 axis-fits H = lit< tt
 axis-fits «V» = lit< tt
 
 lock-fits : (x : AxisLock) → lockNumber x < 256
-unfolding lockNumber lines.axisNumber
+unfolding lockNumber axes.axisNumber
 lock-fits Free = lit< tt
 lock-fits (On H) = lit< tt
 lock-fits (On «V») = lit< tt
@@ -91,9 +94,9 @@ touch-fits (touch.Down start since) h = parts-fit 1 (lit< tt) start since zeroMu
 touch-fits (touch.Multi m pair) h = parts-fit 2 (lit< tt) origin 0 m pair no-down (multi-fits m (h .0)) (pairing-fits pair (h .1))
 touch-fits touch.Residual h = parts-fit 3 (lit< tt) origin 0 zeroMulti Unpaired no-down no-multi absent-fits
 
-one-fits : (o : One) → TypedOne o → Fits (oneRows o)
-unfolding oneRows pointRows
-one-fits o h = (h .0 .0, (h .0 .1, (bit-fits (o .moved), (h .1, (bit-fits (o .«long_sent»), (lock-fits (o .axis), (bit-fits (o .grabbed), (bit-fits (o .direct), (bit-fits (o .early), (bit-fits (o .captured), (bit-fits (o .raw), tt)))))))))))
+finger-fits : (one : One) (app : App) → TypedOne one → Fits (fingerRows one app)
+unfolding fingerRows oneRows takenRows pointRows
+finger-fits one app h = (h .0 .0, (h .0 .1, (bit-fits (one .moved), (h .1, (bit-fits (one .«long_sent»), (lock-fits (one .axis), (bit-fits (one .grabbed), (bit-fits (app .direct), (bit-fits (one .early), (bit-fits (app .captured), (bit-fits (app .raw), tt)))))))))))
 
 end-fits : (end : MultiEnd) → TypedEnd end → Fits (endRows end)
 unfolding endRows endNumber endTime
@@ -102,18 +105,13 @@ end-fits (At end) h = (lit< tt, (h, tt))
 
 -- Each part is what was written.
 
-bit-back : (b : Bool) → flagFrom (bit b) ≡ b
-unfolding flagFrom lines.bit tests.if_then_else_
-bit-back true = refl
-bit-back false = refl
-
 axis-back : (a : Axis) → axisFrom (axisNumber a) ≡ a
-unfolding axisFrom lines.axisNumber tests.if_then_else_
+unfolding axisFrom axes.axisNumber tests.if_then_else_
 axis-back H = refl
 axis-back «V» = refl
 
 lock-back : (x : AxisLock) → lockFrom (lockNumber x) ≡ x
-unfolding lockFrom lockNumber lines.axisNumber tests.if_then_else_
+unfolding lockFrom lockNumber axes.axisNumber tests.if_then_else_
 lock-back Free = refl
 lock-back (On H) = refl
 lock-back (On «V») = refl
@@ -135,20 +133,24 @@ end-back (At end) = refl
 
 module _ (t : Tracker) (typed : Typed t) where
   touch-read : numbersAt (touchRows (t .touch)) (imageOf t) at-touch ≡ numbersIn (touchRows (t .touch))
-  unfolding imageOf table total touchRows downRows multiRows pairingRows pairRows pointRows oneRows endRows settingRows
-  touch-read = part-back [] (touchRows (t .touch)) (oneRows (t .one) ++ endRows (t .«multi_end») ++ settingRows t) (touch-fits (t .touch) (typed .touching))
+  unfolding imageOf table total touchRows downRows multiRows pairingRows pairRows pointRows fingerRows oneRows takenRows endRows keyRows settingRows
+  touch-read = part-back [] (touchRows (t .touch)) (fingerRows (t .one) (t .app) ++ endRows (t .«multi_end») ++ keyRows (t .keys) ++ settingRows (t .settings)) (touch-fits (t .touch) (typed .touching))
 
-  one-read : numbersAt (oneRows (t .one)) (imageOf t) at-last ≡ numbersIn (oneRows (t .one))
-  unfolding imageOf table total touchRows downRows multiRows pairingRows pairRows pointRows oneRows endRows settingRows
-  one-read = part-back (touchRows (t .touch)) (oneRows (t .one)) (endRows (t .«multi_end») ++ settingRows t) (one-fits (t .one) (typed .fields))
+  finger-read : numbersAt (fingerRows (t .one) (t .app)) (imageOf t) at-last ≡ numbersIn (fingerRows (t .one) (t .app))
+  unfolding imageOf table total touchRows downRows multiRows pairingRows pairRows pointRows fingerRows oneRows takenRows endRows keyRows settingRows
+  finger-read = part-back (touchRows (t .touch)) (fingerRows (t .one) (t .app)) (endRows (t .«multi_end») ++ keyRows (t .keys) ++ settingRows (t .settings)) (finger-fits (t .one) (t .app) (typed .finger))
 
   end-read : numbersAt (endRows (t .«multi_end»)) (imageOf t) at-ended ≡ numbersIn (endRows (t .«multi_end»))
-  unfolding imageOf table total touchRows downRows multiRows pairingRows pairRows pointRows oneRows endRows settingRows
-  end-read = part-back (touchRows (t .touch) ++ oneRows (t .one)) (endRows (t .«multi_end»)) (settingRows t) (end-fits (t .«multi_end») (typed .ended))
+  unfolding imageOf table total touchRows downRows multiRows pairingRows pairRows pointRows fingerRows oneRows takenRows endRows keyRows settingRows
+  end-read = part-back (touchRows (t .touch) ++ fingerRows (t .one) (t .app)) (endRows (t .«multi_end»)) (keyRows (t .keys) ++ settingRows (t .settings)) (end-fits (t .«multi_end») (typed .ended))
 
-  settings-read : numbersAt (settingRows t) (imageOf t) at-keys ≡ numbersIn (settingRows t)
-  unfolding imageOf table total touchRows downRows multiRows pairingRows pairRows pointRows oneRows endRows settingRows
-  settings-read = part-back (touchRows (t .touch) ++ oneRows (t .one) ++ endRows (t .«multi_end»)) (settingRows t) [] (typed .told, (typed .wanted, (typed .grab, (bit-fits (t .«raw_next»), tt))))
+  keys-read : numbersAt (keyRows (t .keys)) (imageOf t) at-told ≡ numbersIn (keyRows (t .keys))
+  unfolding imageOf table total touchRows downRows multiRows pairingRows pairRows pointRows fingerRows oneRows takenRows endRows keyRows settingRows
+  keys-read = part-back (touchRows (t .touch) ++ fingerRows (t .one) (t .app) ++ endRows (t .«multi_end»)) (keyRows (t .keys)) (settingRows (t .settings)) (typed .keying .0, (typed .keying .1, tt))
+
+  settings-read : numbersAt (settingRows (t .settings)) (imageOf t) at-grab ≡ numbersIn (settingRows (t .settings))
+  unfolding imageOf table total touchRows downRows multiRows pairingRows pairRows pointRows fingerRows oneRows takenRows endRows keyRows settingRows
+  settings-read = part-back (touchRows (t .touch) ++ fingerRows (t .one) (t .app) ++ endRows (t .«multi_end») ++ keyRows (t .keys)) (settingRows (t .settings)) [] (settings-fit (t .settings) (typed .setting))
 
   at : (k : ℕ) {l m : List ℕ} → l ≡ m → getD l k 0 ≡ getD m k 0
   at k e = ap (λ (l : List ℕ). getD l k 0) e
@@ -164,9 +166,9 @@ module _ (t : Tracker) (typed : Typed t) where
       ∙ touch-back (t .touch)
 
   one-same : oneAt (imageOf t) ≡ t .one
-  unfolding oneAt numbersAt numbersIn oneRows pointRows
+  unfolding oneAt numbersAt numbersIn fingerRows oneRows takenRows pointRows
   one-same =
-      let e = one-read in
+      let e = finger-read in
       λ i.
       record {
         last = record { x = at 0 e i; y = at 1 e i };
@@ -175,27 +177,37 @@ module _ (t : Tracker) (typed : Typed t) where
         «long_sent» = (ap flagFrom (at 4 e) ∙ bit-back _) i;
         axis = (ap lockFrom (at 5 e) ∙ lock-back _) i;
         grabbed = (ap flagFrom (at 6 e) ∙ bit-back _) i;
-        direct = (ap flagFrom (at 7 e) ∙ bit-back _) i;
         early = (ap flagFrom (at 8 e) ∙ bit-back _) i;
-        captured = (ap flagFrom (at 9 e) ∙ bit-back _) i;
-        raw = (ap flagFrom (at 10 e) ∙ bit-back _) i;
       }
 
-  pub tracker-back : trackerAt (imageOf t) ≡ t
-  unfolding trackerAt numbersAt numbersIn endRows settingRows
-  tracker-back =
-      let e = end-read in
-      let s = settings-read in
+  app-same : appAt (imageOf t) ≡ t .app
+  unfolding appAt numbersAt numbersIn fingerRows oneRows takenRows pointRows
+  app-same =
+      let e = finger-read in
       λ i.
       record {
-        touch = touch-same i;
-        one = one-same i;
-        «multi_end» = ((λ j. endFrom (at 0 e j) (at 1 e j)) ∙ end-back (t .«multi_end»)) i;
-        keys = at 0 s i;
-        «keys_want» = at 1 s i;
-        «grab_ms» = at 2 s i;
-        «raw_next» = (ap flagFrom (at 3 s) ∙ bit-back _) i;
+        captured = (ap flagFrom (at 9 e) ∙ bit-back _) i;
+        raw = (ap flagFrom (at 10 e) ∙ bit-back _) i;
+        direct = (ap flagFrom (at 7 e) ∙ bit-back _) i;
       }
+
+  keys-same : keysAt (imageOf t) ≡ t .keys
+  unfolding numbersAt numbersIn keyRows
+  keys-same =
+      let e = keys-read in
+      λ i. record { told = at 0 e i; wanted = at 1 e i }
+
+  end-same : endAt (imageOf t) ≡ t .«multi_end»
+  unfolding numbersAt numbersIn endRows
+  end-same =
+      let e = end-read in
+      (λ i. endFrom (at 0 e i) (at 1 e i)) ∙ end-back (t .«multi_end»)
+
+  pub tracker-back : trackerAt (imageOf t) ≡ t
+  unfolding trackerAt
+  tracker-back =
+      let set = settings-same (t .settings) (imageOf t) settings-read in
+      λ i. record { touch = touch-same i; one = one-same i; app = app-same i; «multi_end» = end-same i; keys = keys-same i; settings = set i }
 
 -- What is read from bytes is within its types.
 
@@ -232,9 +244,8 @@ module _ (area : List ℕ) (bytes : Bytes area) where
   tracker-typed =
       record {
         touching = touch-typed;
-        fields = one-typed;
+        finger = one-typed;
         ended = end-typed _ _ (number-fits area bytes _ 8);
-        told = number-fits area bytes _ 1;
-        wanted = number-fits area bytes _ 1;
-        grab = number-fits area bytes _ 2;
+        keying = (number-fits area bytes _ 1, number-fits area bytes _ 1);
+        setting = settings-typed area bytes;
       }

@@ -12,8 +12,8 @@ use mir.Facts.{fits-mask}
 use mir.Syntax.{w8}
 use mir.Val.{Fits}
 use Rattle.image.specs.Rows.{bytesOf}
-use Rattle.image.specs.Image.{imageBytes}
-use Rattle.image.specs.Reading.{numberAt}
+use Rattle.image.specs.code.Numbers.{numberAt}
+use Rattle.image.specs.code.Settings.{at-end}
 
 -- Places past one another.
 
@@ -37,7 +37,7 @@ seven at = omega arith
 
 -- The places of a number are within an area of the image's length.
 
-pub room : (area : List ℕ) (at k w : ℕ) → (length area ≡ imageBytes) × (at + w ≤ imageBytes) → k < w → at + k < length area
+pub room : (area : List ℕ) (at k w : ℕ) → (length area ≡ at-end) × (at + w ≤ at-end) → k < w → at + k < length area
 room area at k w h less =
     let long = h .0 in
     let fits = h .1 in

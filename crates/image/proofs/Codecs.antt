@@ -13,14 +13,14 @@ use Rattle.panel.proofs.Laws.{and-left, and-right}
 use Rattle.gesture.specs.States.{stateRule}
 use Rattle.gesture.specs.declared.record.Tracker.{Tracker}
 use Rattle.image.specs.Image.{imageOf, imageBytes}
-use Rattle.image.specs.Reading.{trackerAt}
+use Rattle.image.specs.code.Settings.{at-end}
+use Rattle.image.specs.code.Whole.{trackerAt, imageChecked}
+use Rattle.image.specs.code.Finding.{foundOf}
 use Rattle.image.specs.Typed.{Bytes}
-use Rattle.image.specs.Checked.{imageChecked}
-use Rattle.image.specs.Finding.{foundOf}
-use Rattle.image.specs.Codec.{same, isImage, decodeOf, stored, storeOf, encodeOf}
+use Rattle.image.specs.Codec.{same, isImage, decodeOf, stored, encodeOf}
 use Rattle.image.specs.declared.codec.DecodeAnswer.{DecodeAnswer}
 use Rattle.image.specs.declared.codec.DecodeAnswer.the-variants.{Answered, Refused}
-use Rattle.image.proofs.Whole.{length-image}
+use Rattle.image.proofs.Laid.{bytes-end, length-image}
 use Rattle.image.proofs.Exactly.{image-passes, image-again}
 
 -- The same bytes.
@@ -56,11 +56,11 @@ module _ (area : List ℕ) where
   decode-other differ = if-false _ _ _ (and-false _ _ (same-differ _ _ differ))
 
   pub decode-length : (length area ≡ imageBytes → ⊥) → decodeOf area ≡ Refused State
-  decode-length differ = decode-other (λ e. differ (sym (ap length e) ∙ length-image (trackerAt area)))
+  decode-length differ = decode-other (λ e. differ (sym (ap length e) ∙ length-image (trackerAt area) ∙ sym bytes-end))
 
 -- The same, from what the code looked at.
 
-module _ (area : List ℕ) (long : length area ≡ imageBytes) (bytes : Bytes area) where
+module _ (area : List ℕ) (long : length area ≡ at-end) (bytes : Bytes area) where
   pub found-answers : (t : Tracker) → t ≡ trackerAt area → imageChecked area ≡ true → Answered t ≡ foundOf area
   unfolding foundOf isImage
   found-answers t is passes = ap Answered is ∙ sym (if-true _ _ _ (ap (λ (l : List ℕ). same l area) (image-again area bytes long passes) ∙ same-self area))
@@ -69,7 +69,7 @@ module _ (area : List ℕ) (long : length area ≡ imageBytes) (bytes : Bytes ar
   unfolding foundOf isImage
   found-fails fails = sym (if-false _ _ _ (same-differ _ _ (λ e. true≢false (sym (image-passes (trackerAt area)) ∙ ap imageChecked e ∙ fails))))
 
-pub found-length : (area : List ℕ) → (length area ≡ imageBytes → ⊥) → Refused State ≡ foundOf area
+pub found-length : (area : List ℕ) → (length area ≡ at-end → ⊥) → Refused State ≡ foundOf area
 unfolding foundOf isImage
 found-length area differ = sym (if-false _ _ _ (same-differ _ _ (λ e. differ (sym (ap length e) ∙ length-image (trackerAt area)))))
 
@@ -92,7 +92,7 @@ module _ (area : List ℕ) (t : Tracker) where
   found-holds = if-know Holds _ (Answered (trackerAt area)) (Refused State) (λ yes e. (yes, ap (the-tracker t) e)) (λ other e. absurd (true≢false (ap is-answered e)))
 
   module _ (is : Answered t ≡ foundOf area) where
-    pub found-long : length area ≡ imageBytes
+    pub found-long : length area ≡ at-end
     unfolding isImage
     found-long = sym (ap length (same-equal _ _ (found-holds is .0))) ∙ length-image (trackerAt area)
 
@@ -122,14 +122,14 @@ module _ (area : List ℕ) (why : Refusal) where
 -- Storing.
 
 module _ (t : Tracker) (area : List ℕ) where
-  pub store-done : (after : List ℕ) → length area ≡ imageBytes → after ≡ imageOf t → stored 0 after ≡ storeOf t area
-  unfolding storeOf
-  store-done after long e = ap (λ (l : List ℕ). stored 0 l) e ∙ sym (if-true _ _ _ (eq-eqb _ _ long))
-
-  pub store-refused : (n : ℕ) → n ≡ numberOf State → (length area ≡ imageBytes → ⊥) → stored n area ≡ storeOf t area
-  unfolding storeOf
-  store-refused n e differ = ap (λ (k : ℕ). stored k area) e ∙ sym (if-false _ _ _ (ne-eqb _ _ differ))
-
-  pub encode-refused : (n : ℕ) → n ≡ numberOf State → stateRule t ≡ false → stored n area ≡ encodeOf t area
+  pub encode-done : (after : List ℕ) → length area ≡ at-end → stateRule t ≡ true → after ≡ imageOf t → stored 0 after ≡ encodeOf t area
   unfolding encodeOf
-  encode-refused n e broken = ap (λ (k : ℕ). stored k area) e ∙ sym (if-false _ _ _ broken)
+  encode-done after long kept e = ap (stored 0) e ∙ sym (if-true _ _ _ (and-true _ _ (eq-eqb _ _ (long ∙ sym bytes-end)) ∙ kept))
+
+  pub encode-length : (n : ℕ) → n ≡ numberOf State → (length area ≡ at-end → ⊥) → stored n area ≡ encodeOf t area
+  unfolding encodeOf
+  encode-length n e differ = ap (λ (k : ℕ). stored k area) e ∙ sym (if-false _ _ _ (and-false _ _ (ne-eqb _ _ (λ same-bytes. differ (same-bytes ∙ bytes-end)))))
+
+  pub encode-broken : (n : ℕ) → n ≡ numberOf State → length area ≡ at-end → stateRule t ≡ false → stored n area ≡ encodeOf t area
+  unfolding encodeOf
+  encode-broken n e long broken = ap (λ (k : ℕ). stored k area) e ∙ sym (if-false _ _ _ (and-true _ _ (eq-eqb _ _ (long ∙ sym bytes-end)) ∙ broken))

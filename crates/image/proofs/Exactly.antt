@@ -9,7 +9,6 @@ use lib.Dec.{leb, eqb}
 use lib.ListN.{length, getD}
 use borrow.Author.Tests.{eqb-true, eqb-false, leb-true}
 use Rattle.panel.specs.Tests as tests
-use Rattle.panel.specs.Tests.{_and_}
 use Rattle.panel.specs.declared.points.Point.{Point}
 use Rattle.panel.specs.declared.axes.Axis.{Axis}
 use Rattle.panel.specs.declared.axes.Axis.the-variants.{H, «V»}
@@ -18,99 +17,85 @@ use Rattle.panel.specs.declared.axes.AxisLock.the-variants.{Free, On}
 use Rattle.panel.proofs.Follow.{if-true, if-false, and-true}
 use Rattle.panel.proofs.Laws.{and-left, and-right}
 use Rattle.fingers.specs.declared.one.One.{One}
+use Rattle.fingers.specs.declared.one.App.{App}
 use Rattle.fingers.specs.declared.several.Multi.{Multi}
 use Rattle.fingers.specs.declared.pair.Pairing.{Pairing}
 use Rattle.fingers.specs.declared.pair.Pairing.the-variants.{Unpaired, Paired}
-use Rattle.gesture.specs.Lines as lines
-use Rattle.gesture.specs.Lines.{axisNumber, bit}
+use Rattle.panel.specs.Axes as axes
+use Rattle.panel.specs.Axes.{axisNumber}
 use Rattle.gesture.specs.Trackers.{origin}
 use Rattle.gesture.specs.declared.record.Touch.{Touch}
 use Rattle.gesture.specs.declared.record.Touch.the-variants as touch
 use Rattle.gesture.specs.declared.record.MultiEnd.{MultiEnd}
 use Rattle.gesture.specs.declared.record.MultiEnd.the-variants.{Never, At}
 use Rattle.gesture.specs.declared.record.Tracker.{Tracker}
-use Rattle.image.specs.Rows.{Row, row, bytesOf, laid}
-use Rattle.image.specs.Image.{imageBytes, touchNumber, startOf, sinceOf, multiOf, pairingOf, pairNumber, pairOf, endNumber, endTime, lockNumber, zeroMulti, pointRows, downRows, multiRows, pairRows, pairingRows, touchRows, oneRows, endRows, settingRows, table, imageOf}
-use Rattle.image.specs.Places.{at-touch, at-start, at-since, at-most, at-multi-t0, at-multi-c1, at-multi-t1, at-pairs, at-pair-a, at-pair-b, at-pair-axis, at-span0, at-pair-c0, at-pair-state, at-last, at-moved, at-far, at-long-sent, at-axis, at-grabbed, at-direct, at-early, at-captured, at-raw, at-ended, at-end-time, at-keys, at-keys-want, at-grab, at-raw-next}
-use Rattle.image.specs.Reading.{numberAt, pointAt, flagFrom, axisFrom, lockFrom, pairingFrom, touchFrom, endFrom, multiAt, pairAt, touchAt, oneAt, trackerAt}
-use Rattle.image.specs.Checked.{zeroAt, flagAt, noDown, noMulti, noPair, pairingChecked, singleChecked, touchChecked, handChecked, appChecked, endChecked, restChecked, imageChecked}
+use Rattle.image.specs.Rows.{Row, row, bytesOf, laid, total}
+use Rattle.image.specs.Image.{touchNumber, startOf, sinceOf, multiOf, pairingOf, pairNumber, pairOf, endNumber, endTime, lockNumber, zeroMulti, pointRows, downRows, multiRows, pairRows, pairingRows, touchRows, fingerRows, oneRows, takenRows, endRows, keyRows, settingRows, table, imageOf}
+use Rattle.image.specs.code.Numbers.{numberAt, pointAt, isZero, isFlag}
+use Rattle.image.specs.code.Touches.{at-touch, at-start, at-since, at-multi-n, at-multi-t0, at-multi-c1, at-multi-t1, at-pairs, at-pair-a, at-pair-b, at-pair-axis, at-span0, at-pair-c0, at-pair-state, axisFrom, pairingFrom, touchFrom, multiAt, pairAt, touchAt, noDown, noMulti, noPair, pairingChecked, singleChecked, touchChecked}
+use Rattle.image.specs.code.Finger.{at-last, at-moved, at-far, at-long-sent, at-axis, at-grabbed, at-direct, at-early, at-captured, at-raw, lockFrom, oneAt, appAt, oneChecked, appChecked}
+use Rattle.image.specs.code.Ended.{at-ended, at-end-time, endFrom, endChecked}
+use Rattle.image.specs.code.Keys.{keysAt}
+use Rattle.image.specs.code.Settings.{at-end}
+use Rattle.image.specs.code.Whole.{trackerAt, restChecked, imageChecked}
 use Rattle.image.specs.Typed.{Bytes}
-use Rattle.image.proofs.Layouts.{read, read-laid, total}
+use Rattle.image.proofs.Layouts.{read, read-laid, widthsOf}
+use Rattle.image.proofs.Flags.{both, flag-passes, of-two, is-flag, flag-stands}
+use Rattle.image.proofs.SettingLaws.{settings-pass, setting-rows}
 
 -- An image passes.
 
-both : {a b : Bool} → a ≡ true → b ≡ true → _and_ a b ≡ true
-both e f = and-true _ _ e ∙ f
-
-flag-passes : (b : Bool) → leb (bit b % 256 + 256 * 0) 1 ≡ true
-unfolding lines.bit
-flag-passes true = refl
-flag-passes false = refl
-
 axis-passes : (a : Axis) → leb (axisNumber a % 256 + 256 * 0) 1 ≡ true
-unfolding lines.axisNumber
+unfolding axes.axisNumber
 axis-passes H = refl
 axis-passes «V» = refl
 
 lock-passes : (x : AxisLock) → leb (lockNumber x % 256 + 256 * 0) 2 ≡ true
-unfolding lockNumber lines.axisNumber
+unfolding lockNumber axes.axisNumber
 lock-passes Free = refl
 lock-passes (On H) = refl
 lock-passes (On «V») = refl
 
 touch-passes : (x : Touch) (rest : List Row) → touchChecked (laid (touchRows x ++ rest)) ≡ true
-unfolding touchChecked singleChecked pairingChecked noDown noMulti noPair zeroAt flagAt numberAt laid bytesOf touchRows touchNumber startOf sinceOf multiOf pairingOf pairNumber pairOf downRows multiRows pairingRows pairRows pointRows lines.axisNumber tests.if_then_else_ tests._and_
+unfolding touchChecked singleChecked pairingChecked noDown noMulti noPair isZero isFlag numberAt laid bytesOf touchRows touchNumber startOf sinceOf multiOf pairingOf pairNumber pairOf downRows multiRows pairingRows pairRows pointRows axes.axisNumber tests.if_then_else_ tests._and_
 touch-passes touch.Idle rest = refl
 touch-passes (touch.Down start since) rest = refl
 touch-passes (touch.Multi m Unpaired) rest = refl
 touch-passes (touch.Multi m (Paired r)) rest = axis-passes (r .axis)
 touch-passes touch.Residual rest = refl
 
-module _ (x : Touch) (o : One) where
-  end-passes : (end : MultiEnd) (rest : List Row) → endChecked (laid (touchRows x ++ oneRows o ++ endRows end ++ rest)) ≡ true
-  unfolding endChecked zeroAt numberAt laid bytesOf touchRows downRows multiRows pairingRows pairRows pointRows oneRows endRows endNumber endTime tests.if_then_else_
+module _ (x : Touch) (one : One) (app : App) where
+  end-passes : (end : MultiEnd) (rest : List Row) → endChecked (laid (touchRows x ++ fingerRows one app ++ endRows end ++ rest)) ≡ true
+  unfolding endChecked isZero numberAt laid bytesOf touchRows downRows multiRows pairingRows pairRows pointRows fingerRows oneRows takenRows endRows endNumber endTime tests.if_then_else_
   end-passes Never rest = refl
   end-passes (At end) rest = refl
 
-  hand-passes : (rest : List Row) → handChecked (laid (touchRows x ++ oneRows o ++ rest)) ≡ true
-  unfolding handChecked flagAt numberAt laid bytesOf touchRows downRows multiRows pairingRows pairRows pointRows oneRows
-  hand-passes rest = both (flag-passes (o .moved)) (both (flag-passes (o .«long_sent»)) (both (lock-passes (o .axis)) (flag-passes (o .grabbed))))
+  one-passes : (rest : List Row) → oneChecked (laid (touchRows x ++ fingerRows one app ++ rest)) ≡ true
+  unfolding oneChecked isFlag numberAt laid bytesOf touchRows downRows multiRows pairingRows pairRows pointRows fingerRows oneRows takenRows
+  one-passes rest = both (flag-passes (one .moved)) (both (flag-passes (one .«long_sent»)) (both (lock-passes (one .axis)) (both (flag-passes (one .grabbed)) (flag-passes (one .early)))))
 
-  app-passes : (rest : List Row) → appChecked (laid (touchRows x ++ oneRows o ++ rest)) ≡ true
-  unfolding appChecked flagAt numberAt laid bytesOf touchRows downRows multiRows pairingRows pairRows pointRows oneRows
-  app-passes rest = both (flag-passes (o .direct)) (both (flag-passes (o .early)) (both (flag-passes (o .captured)) (flag-passes (o .raw))))
-
-wish-passes : (t : Tracker) → flagAt (imageOf t) at-raw-next ≡ true
-unfolding flagAt numberAt laid bytesOf imageOf table touchRows downRows multiRows pairingRows pairRows pointRows oneRows endRows settingRows
-wish-passes t = flag-passes (t .«raw_next»)
+  app-passes : (rest : List Row) → appChecked (laid (touchRows x ++ fingerRows one app ++ rest)) ≡ true
+  unfolding appChecked isFlag numberAt laid bytesOf touchRows downRows multiRows pairingRows pairRows pointRows fingerRows oneRows takenRows
+  app-passes rest = both (flag-passes (app .direct)) (both (flag-passes (app .captured)) (flag-passes (app .raw)))
 
 pub image-passes : (t : Tracker) → imageChecked (imageOf t) ≡ true
-unfolding imageChecked restChecked imageOf table touchRows downRows multiRows pairingRows pairRows pointRows oneRows endRows settingRows
+unfolding imageChecked restChecked imageOf table touchRows downRows multiRows pairingRows pairRows pointRows fingerRows oneRows takenRows endRows keyRows settingRows
 image-passes t =
-    both (touch-passes (t .touch) (oneRows (t .one) ++ endRows (t .«multi_end») ++ settingRows t))
-    (both (hand-passes (t .touch) (t .one) (endRows (t .«multi_end») ++ settingRows t))
-    (both (app-passes (t .touch) (t .one) (endRows (t .«multi_end») ++ settingRows t))
-    (both (end-passes (t .touch) (t .one) (t .«multi_end») (settingRows t)) (wish-passes t))))
+    let ends = keyRows (t .keys) ++ settingRows (t .settings) in
+    let later = endRows (t .«multi_end») ++ ends in
+    both (touch-passes (t .touch) (fingerRows (t .one) (t .app) ++ later))
+    (both (one-passes (t .touch) (t .one) (t .app) later)
+    (both (app-passes (t .touch) (t .one) (t .app) later)
+    (both (end-passes (t .touch) (t .one) (t .app) (t .«multi_end») ends) (settings-pass t))))
 
--- What passes is the image of its tracker. A flag stands for itself.
-
-module _ (A : Type 0) (f : ℕ → A) (back : A → ℕ) (at-0 : back (f 0) ≡ 0) (at-1 : back (f 1) ≡ 1) where
-  of-two : (n : ℕ) → n ≤ 1 → back (f n) ≡ n
-  of-two zero h = at-0
-  of-two (suc n) h =
-      let e : n ≡ 0 = omega (arith, h) in
-      ap (λ (k : ℕ). back (f (suc k))) e ∙ at-1 ∙ sym (ap suc e)
-
-flag-same : (n : ℕ) → n ≤ 1 → bit (flagFrom n) ≡ n
-unfolding flagFrom lines.bit tests.if_then_else_
-flag-same n h = of-two Bool flagFrom bit refl refl n h
+-- What passes is the image of its tracker. A number of few values stands for itself.
 
 axis-same : (n : ℕ) → n ≤ 1 → axisNumber (axisFrom n) ≡ n
-unfolding axisFrom lines.axisNumber tests.if_then_else_
+unfolding axisFrom axes.axisNumber tests.if_then_else_
 axis-same n h = of-two Axis axisFrom axisNumber refl refl n h
 
 lock-same : (n : ℕ) → n ≤ 2 → lockNumber (lockFrom n) ≡ n
-unfolding lockFrom lockNumber lines.axisNumber tests.if_then_else_
+unfolding lockFrom lockNumber axes.axisNumber tests.if_then_else_
 lock-same zero h = refl
 lock-same (suc zero) h = refl
 lock-same (suc (suc n)) h =
@@ -123,13 +108,9 @@ shape n start since m k a b axis span0 c0 state =
     row 1 n ∷ (downRows start since ++ (multiRows m ++ (row 1 k ∷ (pointRows a ++ (pointRows b ++ (row 1 axis ∷ (row 2 span0 ∷ (pointRows c0 ++ (row 1 state ∷ [])))))))))
 
 module _ (area : List ℕ) where
-  is-zero : (at w : ℕ) → zeroAt area at w ≡ true → numberAt area at w ≡ 0
-  unfolding zeroAt
+  is-zero : (at w : ℕ) → isZero area at w ≡ true → numberAt area at w ≡ 0
+  unfolding isZero
   is-zero at w e = eqb-true _ _ e
-
-  is-flag : (at : ℕ) → flagAt area at ≡ true → numberAt area at 1 ≤ 1
-  unfolding flagAt
-  is-flag at e = leb-true _ _ e
 
   -- What is zero is so in all its parts, and what is so in its parts.
 
@@ -198,47 +179,47 @@ module _ (area : List ℕ) where
   -- No several fingers.
 
   module _ (absent : noMulti area ≡ true) where
-    word-0 : numberAt area at-most 8 ≡ 0
+    word-0 : numberAt area at-multi-n 8 ≡ 0
     unfolding noMulti
     word-0 = is-zero _ 8 (and-left _ _ absent)
 
-    word-1 : numberAt area (at-most + 8) 8 ≡ 0
+    word-1 : numberAt area (at-multi-n + 8) 8 ≡ 0
     unfolding noMulti
     word-1 = is-zero _ 8 (and-left _ _ (and-right _ _ absent))
 
-    word-2 : numberAt area (at-most + 16) 8 ≡ 0
+    word-2 : numberAt area (at-multi-n + 16) 8 ≡ 0
     unfolding noMulti
     word-2 = is-zero _ 8 (and-left _ _ (and-right _ _ (and-right _ _ absent)))
 
-    word-3 : numberAt area (at-most + 24) 2 ≡ 0
+    word-3 : numberAt area (at-multi-n + 24) 2 ≡ 0
     unfolding noMulti
     word-3 = is-zero _ 2 (and-right _ _ (and-right _ _ (and-right _ _ absent)))
 
     -- Numbers that two of the words share.
 
     no-t0 : numberAt area at-multi-t0 8 ≡ 0
-    no-t0 = joined at-multi-t0 3 5 (rest-of-word at-most 5 3 word-0) (start-of-word (at-most + 8) 5 3 word-1)
+    no-t0 = joined at-multi-t0 3 5 (rest-of-word at-multi-n 5 3 word-0) (start-of-word (at-multi-n + 8) 5 3 word-1)
 
     no-y1 : numberAt area (at-multi-c1 + 2) 2 ≡ 0
-    no-y1 = joined (at-multi-c1 + 2) 1 1 (rest-of-word (at-most + 8) 7 1 word-1) (start-of-word (at-most + 16) 1 7 word-2)
+    no-y1 = joined (at-multi-c1 + 2) 1 1 (rest-of-word (at-multi-n + 8) 7 1 word-1) (start-of-word (at-multi-n + 16) 1 7 word-2)
 
     no-t1 : numberAt area at-multi-t1 8 ≡ 0
-    no-t1 = joined at-multi-t1 7 1 (rest-of-word (at-most + 16) 1 7 word-2) (start-of-word (at-most + 24) 1 1 word-3)
+    no-t1 = joined at-multi-t1 7 1 (rest-of-word (at-multi-n + 16) 1 7 word-2) (start-of-word (at-multi-n + 24) 1 1 word-3)
 
     no-several : multiAt area ≡ zeroMulti
     unfolding multiAt
     no-several =
         λ i.
         record {
-          n = start-of-word at-most 1 7 word-0 i;
-          c0 = record { x = part-of-word at-most 1 2 5 word-0 i; y = part-of-word at-most 3 2 3 word-0 i };
+          n = start-of-word at-multi-n 1 7 word-0 i;
+          c0 = record { x = part-of-word at-multi-n 1 2 5 word-0 i; y = part-of-word at-multi-n 3 2 3 word-0 i };
           t0 = no-t0 i;
-          c1 = record { x = part-of-word (at-most + 8) 5 2 1 word-1 i; y = no-y1 i };
+          c1 = record { x = part-of-word (at-multi-n + 8) 5 2 1 word-1 i; y = no-y1 i };
           t1 = no-t1 i;
         }
 
     no-mark : numberAt area at-pairs 1 ≡ 0
-    no-mark = rest-of-word (at-most + 24) 1 1 word-3
+    no-mark = rest-of-word (at-multi-n + 24) 1 1 word-3
 
   -- No pair: the rows of the touch are then those of a touch without one.
 
@@ -293,16 +274,16 @@ module _ (area : List ℕ) where
         ∙ no-pair-rows no-pair at-n (pointAt area at-start) (numberAt area at-since 8) (multiAt area) at-k
 
     down-rows : at-n ≡ 1 → reads at-n at-k ≡ stands
-    unfolding touchFrom touchRows touchNumber startOf sinceOf multiOf pairingOf pairNumber pairOf pairingRows pairRows downRows multiRows pointRows lines.axisNumber tests.if_then_else_
+    unfolding touchFrom touchRows touchNumber startOf sinceOf multiOf pairingOf pairNumber pairOf pairingRows pairRows downRows multiRows pointRows axes.axisNumber tests.if_then_else_
     down-rows e = ap (λ (n : ℕ). reads n at-k) e ∙ alone-rows 1 e (pointAt area at-start) (numberAt area at-since 8) refl refl
 
     module _ (none-down : noDown area ≡ true) where
       idle-rows : at-n ≡ 0 → reads at-n at-k ≡ stands
-      unfolding touchFrom touchRows touchNumber startOf sinceOf multiOf pairingOf pairNumber pairOf pairingRows pairRows downRows multiRows pointRows lines.axisNumber tests.if_then_else_
+      unfolding touchFrom touchRows touchNumber startOf sinceOf multiOf pairingOf pairNumber pairOf pairingRows pairRows downRows multiRows pointRows axes.axisNumber tests.if_then_else_
       idle-rows e = ap (λ (n : ℕ). reads n at-k) e ∙ alone-rows 0 e origin 0 (no-start none-down) (no-since none-down)
 
       residual-rows : at-n ≡ 3 → reads at-n at-k ≡ stands
-      unfolding touchFrom touchRows touchNumber startOf sinceOf multiOf pairingOf pairNumber pairOf pairingRows pairRows downRows multiRows pointRows lines.axisNumber tests.if_then_else_
+      unfolding touchFrom touchRows touchNumber startOf sinceOf multiOf pairingOf pairNumber pairOf pairingRows pairRows downRows multiRows pointRows axes.axisNumber tests.if_then_else_
       residual-rows e = ap (λ (n : ℕ). reads n at-k) e ∙ alone-rows 3 e origin 0 (no-start none-down) (no-since none-down)
 
       other-rows : (b : Bool) → eqb at-n 0 ≡ b → at-n ≤ 3 → eqb at-n 1 ≡ false → eqb at-n 2 ≡ false → reads at-n at-k ≡ stands
@@ -325,17 +306,17 @@ module _ (area : List ℕ) where
     several-rows k a b axis span0 c0 state = λ i. shape (sym e i) (sym (no-start none-down) i) (sym (no-since none-down) i) (multiAt area) k a b axis span0 c0 state
 
     unpaired-rows : at-k ≡ 0 → noPair area ≡ true → reads at-n at-k ≡ stands
-    unfolding touchFrom pairingFrom touchRows touchNumber startOf sinceOf multiOf pairingOf pairNumber pairOf pairingRows pairRows downRows multiRows pointRows lines.axisNumber tests.if_then_else_
+    unfolding touchFrom pairingFrom touchRows touchNumber startOf sinceOf multiOf pairingOf pairNumber pairOf pairingRows pairRows downRows multiRows pointRows axes.axisNumber tests.if_then_else_
     unpaired-rows f no-pair =
         (λ i. reads (e i) (f i)) ∙ several-rows 0 origin origin 0 0 origin 0
         ∙ no-pair-rows no-pair at-n (pointAt area at-start) (numberAt area at-since 8) (multiAt area) 0
         ∙ ap (λ (k : ℕ). shape at-n (pointAt area at-start) (numberAt area at-since 8) (multiAt area) k (pointAt area at-pair-a) (pointAt area at-pair-b) (numberAt area at-pair-axis 1) (numberAt area at-span0 2) (pointAt area at-pair-c0) (numberAt area at-pair-state 1)) (sym f)
 
-    paired-rows : at-k ≡ 1 → flagAt area at-pair-axis ≡ true → reads at-n at-k ≡ stands
+    paired-rows : at-k ≡ 1 → isFlag area at-pair-axis ≡ true → reads at-n at-k ≡ stands
     unfolding touchFrom pairingFrom pairAt touchRows touchNumber startOf sinceOf multiOf pairingOf pairNumber pairOf pairingRows pairRows downRows multiRows pointRows tests.if_then_else_
     paired-rows f flag =
         (λ i. reads (e i) (f i)) ∙ several-rows 1 (pointAt area at-pair-a) (pointAt area at-pair-b) (axisNumber (axisFrom (numberAt area at-pair-axis 1))) (numberAt area at-span0 2) (pointAt area at-pair-c0) (numberAt area at-pair-state 1)
-        ∙ (λ i. shape at-n (pointAt area at-start) (numberAt area at-since 8) (multiAt area) (sym f i) (pointAt area at-pair-a) (pointAt area at-pair-b) (axis-same _ (is-flag at-pair-axis flag) i) (numberAt area at-span0 2) (pointAt area at-pair-c0) (numberAt area at-pair-state 1))
+        ∙ (λ i. shape at-n (pointAt area at-start) (numberAt area at-since 8) (multiAt area) (sym f i) (pointAt area at-pair-a) (pointAt area at-pair-b) (axis-same _ (is-flag area at-pair-axis flag) i) (numberAt area at-span0 2) (pointAt area at-pair-c0) (numberAt area at-pair-state 1))
 
     pairing-rows : (a b : Bool) → eqb at-k 0 ≡ a → eqb at-k 1 ≡ b → pairingChecked area ≡ true → reads at-n at-k ≡ stands
     unfolding pairingChecked
@@ -356,28 +337,27 @@ module _ (area : List ℕ) where
 
   -- The other rows.
 
-  flag-stands : (at : ℕ) → flagAt area at ≡ true → bit (flagFrom (numberAt area at 1)) ≡ numberAt area at 1
-  flag-stands at e = flag-same _ (is-flag at e)
-
-  module _ (hand : handChecked area ≡ true) (app : appChecked area ≡ true) where
+  module _ (one : oneChecked area ≡ true) (app : appChecked area ≡ true) where
     lock-stands : lockNumber (lockFrom (numberAt area at-axis 1)) ≡ numberAt area at-axis 1
-    unfolding handChecked
-    lock-stands = lock-same _ (leb-true _ _ (and-left _ _ (and-right _ _ (and-right _ _ hand))))
+    unfolding oneChecked
+    lock-stands = lock-same _ (leb-true _ _ (and-left _ _ (and-right _ _ (and-right _ _ one))))
 
-    one-rows : oneRows (oneAt area)
-        ≡ pointRows (pointAt area at-last) ++ (row 1 (numberAt area at-moved 1) ∷ row 2 (numberAt area at-far 2) ∷ row 1 (numberAt area at-long-sent 1) ∷ row 1 (numberAt area at-axis 1) ∷ row 1 (numberAt area at-grabbed 1) ∷ row 1 (numberAt area at-direct 1) ∷ row 1 (numberAt area at-early 1) ∷ row 1 (numberAt area at-captured 1) ∷ row 1 (numberAt area at-raw 1) ∷ [])
-    unfolding oneRows oneAt handChecked appChecked
-    one-rows =
+    finger-rows : fingerRows (oneAt area) (appAt area) ≡ read area (widthsOf (fingerRows (oneAt area) (appAt area))) at-last
+    unfolding fingerRows oneRows takenRows oneAt appAt oneChecked appChecked widthsOf pointRows
+    finger-rows =
+        let one2 = and-right _ _ one in
+        let one4 = and-right _ _ (and-right _ _ one2) in
+        let app2 = and-right _ _ app in
         λ i.
-        pointRows (pointAt area at-last) ++ (row 1 (flag-stands at-moved (and-left _ _ hand) i)
+        pointRows (pointAt area at-last) ++ (row 1 (flag-stands area at-moved (and-left _ _ one) i)
         ∷ row 2 (numberAt area at-far 2)
-        ∷ row 1 (flag-stands at-long-sent (and-left _ _ (and-right _ _ hand)) i)
+        ∷ row 1 (flag-stands area at-long-sent (and-left _ _ one2) i)
         ∷ row 1 (lock-stands i)
-        ∷ row 1 (flag-stands at-grabbed (and-right _ _ (and-right _ _ (and-right _ _ hand))) i)
-        ∷ row 1 (flag-stands at-direct (and-left _ _ app) i)
-        ∷ row 1 (flag-stands at-early (and-left _ _ (and-right _ _ app)) i)
-        ∷ row 1 (flag-stands at-captured (and-left _ _ (and-right _ _ (and-right _ _ app))) i)
-        ∷ row 1 (flag-stands at-raw (and-right _ _ (and-right _ _ (and-right _ _ app))) i)
+        ∷ row 1 (flag-stands area at-grabbed (and-left _ _ one4) i)
+        ∷ row 1 (flag-stands area at-direct (and-left _ _ app) i)
+        ∷ row 1 (flag-stands area at-early (and-right _ _ one4) i)
+        ∷ row 1 (flag-stands area at-captured (and-left _ _ app2) i)
+        ∷ row 1 (flag-stands area at-raw (and-right _ _ app2) i)
         ∷ [])
 
   abbrev at-e : ℕ
@@ -395,21 +375,20 @@ module _ (area : List ℕ) where
 
   -- the widths of the table
   abbrev widths : List ℕ
-  widths =
-      1 ∷ 2 ∷ 2 ∷ 8 ∷ 1 ∷ 2 ∷ 2 ∷ 8 ∷ 2 ∷ 2 ∷ 8 ∷ 1 ∷ 2 ∷ 2 ∷ 2 ∷ 2 ∷ 1 ∷ 2 ∷ 2 ∷ 2 ∷ 1 ∷ 2 ∷ 2 ∷ 1 ∷ 2 ∷ 1 ∷ 1 ∷ 1 ∷ 1 ∷ 1 ∷ 1 ∷ 1 ∷ 1 ∷ 8 ∷ 1 ∷ 1 ∷ 2 ∷ 1 ∷ []
+  widths = widthsOf (table (trackerAt area))
 
   table-stands : imageChecked area ≡ true → table (trackerAt area) ≡ read area widths 0
-  unfolding imageChecked restChecked table trackerAt settingRows multiAt pointRows downRows multiRows
+  unfolding imageChecked restChecked table trackerAt widthsOf touchRows pairingRows pairRows multiAt pointRows downRows multiRows fingerRows oneRows takenRows endRows keyRows settingRows
   table-stands passes =
       let rest = and-right _ _ passes in
       let app = and-left _ _ (and-right _ _ rest) in
       let end = and-left _ _ (and-right _ _ (and-right _ _ rest)) in
-      let wish = and-right _ _ (and-right _ _ (and-right _ _ rest)) in
-      λ i. ((touch-rows (and-left _ _ passes) i ++ one-rows (and-left _ _ rest) app i) ++ end-rows (eqb at-e 0) refl end i) ++ (row 1 (numberAt area at-keys 1) ∷ row 1 (numberAt area at-keys-want 1) ∷ row 2 (numberAt area at-grab 2) ∷ row 1 (flag-stands at-raw-next wish i) ∷ [])
+      let set = and-right _ _ (and-right _ _ (and-right _ _ rest)) in
+      λ i. touch-rows (and-left _ _ passes) i ++ finger-rows (and-left _ _ rest) app i ++ end-rows (eqb at-e 0) refl end i ++ keyRows (keysAt area) ++ setting-rows area set i
 
-  module _ (bytes : Bytes area) (long : length area ≡ imageBytes) where
+  module _ (bytes : Bytes area) (long : length area ≡ at-end) where
     as-read : laid (read area widths 0) ≡ area
-    unfolding total
+    unfolding total table widthsOf touchRows pairingRows pairRows pointRows downRows multiRows fingerRows oneRows takenRows endRows keyRows settingRows
     as-read = read-laid area bytes widths 0 (sym long)
 
     pub image-again : imageChecked area ≡ true → imageOf (trackerAt area) ≡ area

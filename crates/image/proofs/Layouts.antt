@@ -8,14 +8,9 @@ use native.Mathlib.Omega.{arith}
 use lib.Dec.{lit<}
 use lib.ListN.{length, getD, take, drop, length-append}
 use lib.Seq.{length-take-le, sets, length-sets, sets-eq, take-at, take-length, getD-at, drop-cons, drop-length}
-use Rattle.image.specs.Rows.{Row, row, bytesOf, laid}
-use Rattle.image.specs.Puts.{puts}
-use Rattle.image.specs.Reading.{numberAt}
-
--- how many bytes a table takes
-unfoldable pub total : List Row → ℕ
-total [] = 0
-total (r ∷ rows) = r .width + total rows
+use Rattle.image.specs.Rows.{Row, row, bytesOf, laid, total}
+use Rattle.image.specs.code.Numbers.{numberAt}
+use Rattle.image.specs.code.Puts.{puts}
 
 pub length-bytes : (width n : ℕ) → length (bytesOf width n) ≡ width
 unfolding bytesOf
@@ -120,6 +115,10 @@ low-byte b n h = omega (arith, h)
 
 next-bytes : (b n : ℕ) → b < 256 → (b + 256 * n) / 256 ≡ n
 next-bytes b n h = omega (arith, h)
+
+unfoldable pub widthsOf : List Row → List ℕ
+widthsOf [] = []
+widthsOf (r ∷ rows) = r .width ∷ widthsOf rows
 
 -- an area as a table of given widths
 abbrev pub read : List ℕ → List ℕ → ℕ → List Row

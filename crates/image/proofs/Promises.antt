@@ -6,26 +6,31 @@ use mathlib.Core.Bool.{Bool, true, false, true≢false}
 use mathlib.Core.List.{List, [], _∷_, _++_}
 use lib.ListN.{length, replicate}
 use borrow.Author.Tests.{eq-eqb}
+use Rattle.panel.specs.Tests as tests
 use Rattle.panel.specs.Tests.{if_then_else_, _and_}
 use Rattle.panel.specs.Refusals.{numberOf}
 use Rattle.panel.specs.declared.refusals.Refusal.the-variants.{State}
-use Rattle.panel.proofs.Follow.{if-true, if-of, if-know, if-all}
+use Rattle.panel.proofs.Follow.{if-true, if-false, if-of, if-know, if-all, and-true}
 use Rattle.panel.proofs.Laws.{and-left, and-right}
 use Rattle.panel.proofs.Promises.{one-answer}
 use Rattle.fingers.specs.Fields as fields
+use Rattle.fingers.specs.Settings as settings
 use Rattle.gesture.specs.States.{stateRule}
 use Rattle.gesture.specs.Trackers as trackers
-use Rattle.gesture.specs.Trackers.{freshTracker, setTouch}
-use Rattle.gesture.specs.Lines as lines
+use Rattle.gesture.specs.Trackers.{freshTracker, touched}
+use Rattle.panel.specs.Axes as axes
 use Rattle.gesture.specs.declared.record.Touch.the-variants.{Down}
 use Rattle.gesture.specs.declared.record.MultiEnd.the-variants.{Never}
+use Rattle.gesture.specs.Calls.{Call}
 use Rattle.gesture.specs.declared.record.Tracker.{Tracker}
 use Rattle.image.specs.Rows.{bytesOf, laid}
-use Rattle.image.specs.Image.{imageBytes, touchNumber, startOf, sinceOf, multiOf, pairingOf, pairNumber, pairOf, endNumber, endTime, lockNumber, pointRows, downRows, multiRows, pairRows, pairingRows, touchRows, oneRows, endRows, settingRows, table, imageOf}
-use Rattle.image.specs.Reading.{trackerAt}
+use Rattle.image.specs.Image.{imageBytes, touchNumber, startOf, sinceOf, multiOf, pairingOf, pairNumber, pairOf, endNumber, endTime, lockNumber, pointRows, downRows, multiRows, pairRows, pairingRows, touchRows, fingerRows, oneRows, takenRows, endRows, keyRows, settingRows, table, imageOf}
+use Rattle.image.specs.code.Settings.{at-end}
+use Rattle.image.specs.code.Whole.{trackerAt}
 use Rattle.image.specs.Typed.{Bytes, Typed}
-use Rattle.image.specs.Codec.{isImage, decodeOf, toldDecode, Stored, stored, storeOf, encodeOf}
-use Rattle.image.specs.Finding.{foundOf, grabIn}
+use Rattle.image.specs.Codec.{NoImage, Decodes, isImage, decodeOf, toldDecode, Stored, stored, encodeOf}
+use Rattle.image.specs.Calls.{Left, left, madeOn, grabOn}
+use Rattle.image.specs.declared.calls.AreaGrab.{AreaGrab}
 use Rattle.image.specs.declared.codec.DecodeAnswer.{DecodeAnswer}
 use Rattle.image.specs.declared.codec.DecodeAnswer.the-variants.{Answered, Refused}
 use Rattle.image.proofs.Back.{tracker-back, tracker-typed}
@@ -40,8 +45,8 @@ module _ (t : Tracker) (typed : Typed t) (kept : stateRule t ≡ true) where
       decode-image (imageOf t) (ap imageOf back) (ap stateRule back ∙ kept) ∙ ap Answered back
 
   pub encode-stores : (area : List ℕ) → length area ≡ imageBytes → encodeOf t area ≡ stored 0 (imageOf t)
-  unfolding encodeOf storeOf
-  encode-stores area long = if-true _ _ _ kept ∙ if-true _ _ _ (eq-eqb _ _ long)
+  unfolding encodeOf
+  encode-stores area long = if-true _ _ _ (and-true _ _ (eq-eqb _ _ long) ∙ kept)
 
   pub decode-of-encode : (area : List ℕ) → length area ≡ imageBytes → decodeOf (encodeOf t area .area) ≡ Answered t
   decode-of-encode area long = ap (λ (s : Stored). decodeOf (s .area)) (encode-stores area long) ∙ decode-of-image
@@ -80,9 +85,6 @@ one-tracker r s typed-r typed-s e = sym (tracker-back r typed-r) ∙ ap trackerA
 -- "any other area, too short or long included, is STATE": refused exactly if it is the image of no tracker that keeps the
 -- state rule.
 
-abbrev pub NoImage : List ℕ → Type 0
-NoImage area = (t : Tracker) → Typed t → stateRule t ≡ true → imageOf t ≡ area → ⊥
-
 pub refused-no-image : (area : List ℕ) → decodeOf area ≡ Refused State → NoImage area
 unfolding answered
 refused-no-image area refused t typed kept e = true≢false (ap answered (sym (decode-of-image t typed kept) ∙ ap decodeOf e ∙ refused))
@@ -97,6 +99,25 @@ no-image-refused area bytes none =
 pub wrong-length-refused : (area : List ℕ) → (length area ≡ imageBytes → ⊥) → decodeOf area ≡ Refused State
 wrong-length-refused = decode-length
 
+-- Decoding is what `Decodes` asks for, and there is one such answer.
+
+pub decodes : (area : List ℕ) → Bytes area → Decodes area (decodeOf area)
+unfolding decodeOf isImage
+decodes area bytes =
+    if-know (Decodes area) _ (Answered (trackerAt area)) (Refused State)
+    (λ yes. (same-equal _ _ (and-left _ _ yes), and-right _ _ yes))
+    (λ other. (refl, refused-no-image area (if-false _ _ _ other)))
+
+abbrev TypedAnswer : DecodeAnswer → Type 0
+TypedAnswer (Answered t) = Typed t
+TypedAnswer (Refused why) = Unit {0}
+
+pub one-decoding : (area : List ℕ) (r s : DecodeAnswer) → TypedAnswer r → TypedAnswer s → Decodes area r → Decodes area s → r ≡ s
+one-decoding area (Answered t) (Answered u) typed-t typed-u p q = ap Answered (one-tracker t u typed-t typed-u (p .0 ∙ sym (q .0)))
+one-decoding area (Answered t) (Refused why) typed none p q = absurd (q .1 t typed (p .1) (p .0))
+one-decoding area (Refused why) (Answered u) none typed p q = absurd (p .1 u typed (q .1) (q .0))
+one-decoding area (Refused why) (Refused other) none typed p q = ap Refused (p .0 ∙ sym (q .0))
+
 -- In document 01's numbers: 0 and the tracker, or STATE, number 1.
 
 pub decode-tells : (area : List ℕ) → toldDecode (decodeOf area) ≡ if_then_else_ (_and_ (isImage area) (stateRule (trackerAt area))) (record { number = 0; value = trackerAt area }) (record { number = 1; value = freshTracker })
@@ -108,45 +129,35 @@ decode-tells area = if-of toldDecode _ _ _
 abbrev pub Unaltered : List ℕ → Stored → Type 0
 Unaltered area s = (s .number ≡ 0 → ⊥) → s ≡ stored (numberOf State) area
 
-pub store-refused-unaltered : (t : Tracker) (area : List ℕ) → Unaltered area (storeOf t area)
-unfolding storeOf
-store-refused-unaltered t area = if-all (Unaltered area) _ (λ n. absurd (n refl)) (λ n. refl)
-
 pub encode-refused-unaltered : (t : Tracker) (area : List ℕ) → Unaltered area (encodeOf t area)
 unfolding encodeOf
-encode-refused-unaltered t area = if-all (Unaltered area) _ (store-refused-unaltered t area) (λ n. refl)
+encode-refused-unaltered t area = if-all (Unaltered area) _ (λ n. absurd (n refl)) (λ n. refl)
 
 -- Each contract determines what comes back: the answer, and the area.
 
 pub decode-unique : (area : List ℕ) {r s : DecodeAnswer} → r ≡ decodeOf area → s ≡ decodeOf area → r ≡ s
 decode-unique area = one-answer
 
-pub found-unique : (area : List ℕ) {r s : DecodeAnswer} → r ≡ foundOf area → s ≡ foundOf area → r ≡ s
-found-unique area = one-answer
-
-pub grab-unique : (area : List ℕ) {r s : ℕ} → r ≡ grabIn area → s ≡ grabIn area → r ≡ s
+pub grab-unique : (area : List ℕ) {r s : AreaGrab} → r ≡ grabOn area → s ≡ grabOn area → r ≡ s
 grab-unique area = one-answer
 
-pub image-unique : (t : Tracker) {r s : List ℕ} → r ≡ imageOf t → s ≡ imageOf t → r ≡ s
-image-unique t = one-answer
+pub make-unique : (area : List ℕ) (c : Call) (r s : ℕ) (a b out told : List ℕ) → left r a out ≡ madeOn area c → left s b told ≡ madeOn area c → (r ≡ s) × (a ≡ b) × (out ≡ told)
+make-unique area c r s a b out told p q =
+    let e = one-answer p q in
+    (ap (λ (l : Left). l .number) e, ap (λ (l : Left). l .area) e, ap (λ (l : Left). l .out) e)
 
-module _ (t : Tracker) (area : List ℕ) (r s : ℕ) (a b : List ℕ) where
-  both-same : stored r a ≡ stored s b → (r ≡ s) × (a ≡ b)
-  both-same e = (ap (λ (x : Stored). x .number) e, ap (λ (x : Stored). x .area) e)
-
-  pub store-unique : stored r a ≡ storeOf t area → stored s b ≡ storeOf t area → (r ≡ s) × (a ≡ b)
-  store-unique p q = both-same (one-answer p q)
-
-  pub encode-unique : stored r a ≡ encodeOf t area → stored s b ≡ encodeOf t area → (r ≡ s) × (a ≡ b)
-  encode-unique p q = both-same (one-answer p q)
+pub encode-unique : (t : Tracker) (area : List ℕ) (r s : ℕ) (a b : List ℕ) → stored r a ≡ encodeOf t area → stored s b ≡ encodeOf t area → (r ≡ s) × (a ≡ b)
+encode-unique t area r s a b p q =
+    let e = one-answer p q in
+    (ap (λ (x : Stored). x .number) e, ap (λ (x : Stored). x .area) e)
 
 -- Worked examples: the fresh tracker's image is all zero; a finger that went down at (300, 50) at time 1000 is there in
 -- its own bytes.
 
-pub fresh-image : imageOf freshTracker ≡ replicate imageBytes 0
-unfolding bytesOf laid touchNumber startOf sinceOf multiOf pairingOf pairNumber pairOf endNumber endTime lockNumber pointRows downRows multiRows pairRows pairingRows touchRows oneRows endRows settingRows table imageOf trackers.freshTracker fields.reset lines.bit lines.axisNumber
+pub fresh-image : imageOf freshTracker ≡ replicate at-end 0
+unfolding bytesOf laid touchNumber startOf sinceOf multiOf pairingOf pairNumber pairOf endNumber endTime lockNumber pointRows downRows multiRows pairRows pairingRows touchRows fingerRows oneRows takenRows endRows keyRows settingRows table imageOf trackers.freshTracker trackers.whole fields.reset fields.untaken settings.unset tests.bit axes.axisNumber
 fresh-image = refl
 
-pub down-image : imageOf (setTouch freshTracker (Down (record { x = 300; y = 50 }) 1000) (freshTracker .one) Never) ≡ (1 ∷ 44 ∷ 1 ∷ 50 ∷ 0 ∷ 232 ∷ 3 ∷ []) ++ replicate 76 0
-unfolding bytesOf laid touchNumber startOf sinceOf multiOf pairingOf pairNumber pairOf endNumber endTime lockNumber pointRows downRows multiRows pairRows pairingRows touchRows oneRows endRows settingRows table imageOf trackers.setTouch trackers.freshTracker fields.reset lines.bit lines.axisNumber
+pub down-image : imageOf (touched freshTracker (Down (record { x = 300; y = 50 }) 1000) (freshTracker .one) (freshTracker .app) Never) ≡ (1 ∷ 44 ∷ 1 ∷ 50 ∷ 0 ∷ 232 ∷ 3 ∷ []) ++ replicate 76 0
+unfolding bytesOf laid touchNumber startOf sinceOf multiOf pairingOf pairNumber pairOf endNumber endTime lockNumber pointRows downRows multiRows pairRows pairingRows touchRows fingerRows oneRows takenRows endRows keyRows settingRows table imageOf trackers.touched trackers.freshTracker trackers.whole fields.reset fields.untaken settings.unset tests.bit axes.axisNumber
 down-image = refl

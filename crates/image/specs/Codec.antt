@@ -3,9 +3,11 @@
 -- "One tracker has one image (layout fixed in docs/, absent parts zero); any other area, too short or long included, is
 -- STATE." "A refusal carries no other value .. and alters nothing."
 --
--- An area is taken exactly if it is the image of a tracker that keeps the state rule; that `decodeOf` says so is proved
--- (proofs/Promises.antt).
+-- An area is taken exactly if it is the image of a tracker that keeps the state rule: `Decodes` says so, and is what a reader
+-- believes. `decodeOf` goes through the tracker that the code reads; that it answers what `Decodes` asks for, and that there is
+-- one such answer, is proved (`decodes`, `one-decoding` of proofs/Promises.antt).
 use Prim.Native.Nat.{ℕ}
+use mathlib.Core.Path.{_≡_}
 use mathlib.Core.Bool.{Bool, true, false}
 use mathlib.Core.List.{List, [], _∷_}
 use lib.ListN.{length}
@@ -16,7 +18,8 @@ use Rattle.gesture.specs.States.{stateRule}
 use Rattle.gesture.specs.Trackers.{freshTracker}
 use Rattle.gesture.specs.declared.record.Tracker.{Tracker}
 use Rattle.image.specs.Image.{imageOf, imageBytes}
-use Rattle.image.specs.Reading.{trackerAt}
+use Rattle.image.specs.Typed.{Typed}
+use Rattle.image.specs.code.Whole.{trackerAt}
 use Rattle.image.specs.declared.codec.DecodeAnswer.{DecodeAnswer}
 use Rattle.image.specs.declared.codec.DecodeAnswer.the-variants.{Answered, Refused}
 
@@ -28,7 +31,15 @@ same (a ∷ rest) (b ∷ bs) = (a =? b) and same rest bs
 
 -- Decoding.
 
--- an area is its tracker's image
+-- the image of no tracker that keeps the state rule
+abbrev pub NoImage : List ℕ → Type 0
+NoImage area = (t : Tracker) → Typed t → stateRule t ≡ true → imageOf t ≡ area → ⊥
+
+abbrev pub Decodes : List ℕ → DecodeAnswer → Type 0
+Decodes area (Answered t) = (imageOf t ≡ area) × (stateRule t ≡ true)
+Decodes area (Refused why) = (why ≡ State) × NoImage area
+
+-- an area is the image of the tracker that is read from it
 unfoldable pub isImage : List ℕ → Bool
 isImage area = same (imageOf (trackerAt area)) area
 
@@ -49,10 +60,8 @@ pub record Stored : Type 0 where
 abbrev pub stored : ℕ → List ℕ → Stored
 stored number area = record { number = number; area = area }
 
--- the image of any tracker, into an area of the image's length
-unfoldable pub storeOf : Tracker → List ℕ → Stored
-storeOf t area = if length area =? imageBytes then stored 0 (imageOf t) else stored (numberOf State) area
-
--- of a tracker that keeps the state rule alone
+-- the image of a tracker that keeps the state rule, into an area of the image's length
 unfoldable pub encodeOf : Tracker → List ℕ → Stored
-encodeOf t area = if stateRule t then storeOf t area else stored (numberOf State) area
+encodeOf t area =
+    if (length area =? imageBytes) and stateRule t then stored 0 (imageOf t)
+    else stored (numberOf State) area

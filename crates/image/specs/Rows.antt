@@ -2,7 +2,7 @@
 --
 -- A row is a width and the number that stands there, low byte first; a table is laid out row after row, with nothing
 -- between.
-use Prim.Native.Nat.{ℕ, zero, suc, _%_, _/_}
+use Prim.Native.Nat.{ℕ, zero, suc, _+_, _%_, _/_}
 use mathlib.Core.List.{List, [], _∷_, _++_}
 
 pub record Row : Type 0 where
@@ -20,3 +20,8 @@ bytesOf (suc width) n = n % 256 ∷ bytesOf width (n / 256)
 unfoldable pub laid : List Row → List ℕ
 laid [] = []
 laid (r ∷ rows) = bytesOf (r .width) (r .number) ++ laid rows
+
+-- how many bytes a table takes
+unfoldable pub total : List Row → ℕ
+total [] = 0
+total (r ∷ rows) = r .width + total rows

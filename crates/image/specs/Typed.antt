@@ -5,6 +5,8 @@ use mathlib.Core.List.{List}
 use lib.ListN.{getD}
 use Rattle.panel.specs.declared.points.Point.{Point}
 use Rattle.fingers.specs.declared.one.One.{One}
+use Rattle.fingers.specs.declared.keys.Keys.{Keys}
+use Rattle.fingers.specs.declared.settings.Settings.{Settings}
 use Rattle.fingers.specs.declared.several.Multi.{Multi}
 use Rattle.fingers.specs.declared.pair.Pair.{Pair}
 use Rattle.fingers.specs.declared.pair.Pairing.{Pairing}
@@ -53,10 +55,15 @@ abbrev pub TypedEnd : MultiEnd → Type 0
 TypedEnd Never = Unit {0}
 TypedEnd (At end) = Time end
 
+abbrev pub TypedKeys : Keys → Type 0
+TypedKeys keys = Byte (keys .told) × Byte (keys .wanted)
+
+abbrev pub TypedSettings : Settings → Type 0
+TypedSettings settings = Half (settings .«grab_ms»)
+
 pub record Typed (t : Tracker) : Type 0 where
   pub touching : TypedTouch (t .touch)
-  pub fields : TypedOne (t .one)
+  pub finger : TypedOne (t .one)
   pub ended : TypedEnd (t .«multi_end»)
-  pub told : Byte (t .keys)
-  pub wanted : Byte (t .«keys_want»)
-  pub grab : Half (t .«grab_ms»)
+  pub keying : TypedKeys (t .keys)
+  pub setting : TypedSettings (t .settings)

@@ -2,14 +2,10 @@
 // state rule: its bytes are looked at first, and then the tracker that is read from them.
 ghost use mathlib.Core.Path.{_≡_};
 ghost use Rattle.gesture.specs.Trackers.{freshTracker};
-ghost use Rattle.image.specs.Codec.{decodeOf, stored, storeOf, encodeOf};
-ghost use Rattle.image.specs.Finding.{foundOf, grabIn};
-use crate::checks;
-use crate::fields;
-use crate::places;
-use crate::places::IMAGE_BYTES;
-use crate::reading;
-use crate::writing;
+ghost use Rattle.image.specs.Codec.{decodeOf, stored, encodeOf};
+ghost use Rattle.image.specs.code.Finding.{foundOf};
+use crate::settings::IMAGE_BYTES;
+use crate::whole;
 use gesture::Tracker;
 use panel::Refusal;
 
@@ -19,12 +15,12 @@ pub enum DecodeAnswer {
 }
 
 // The tracker whose image the area is, also one that breaks the state rule.
-pub fn found(area: &[u8]) -> DecodeAnswer
+pub(crate) fn unruled(area: &[u8]) -> DecodeAnswer
     ensures { λ r. ⌜ r ≡ foundOf (now (area .entry)) ⌝ }
 {
     if area.len() == IMAGE_BYTES {
-        if checks::is_image(area) {
-            return DecodeAnswer::Answered(reading::tracker_at(area));
+        if whole::is_image(area) {
+            return DecodeAnswer::Answered(whole::tracker_at(area));
         }
         return DecodeAnswer::Refused(Refusal::State);
     }
@@ -35,7 +31,7 @@ pub fn found(area: &[u8]) -> DecodeAnswer
 pub fn decode(area: &[u8]) -> DecodeAnswer
     ensures { λ r. ⌜ r ≡ decodeOf (now (area .entry)) ⌝ }
 {
-    let d = found(area);
+    let d = unruled(area);
     match d {
         DecodeAnswer::Answered(t) => {
             if gesture::state_ok(t) {
@@ -47,45 +43,28 @@ pub fn decode(area: &[u8]) -> DecodeAnswer
     }
 }
 
-// The grab time in an area of the image's length; 0 in any other.
-pub fn grab_ms_in(area: &[u8]) -> u16
-    ensures { λ r. ⌜ r ≡ grabIn (now (area .entry)) ⌝ }
-{
-    if area.len() != IMAGE_BYTES {
-        return 0;
-    }
-    fields::get2(area, places::GRAB)
-}
-
-// Writes the image of a tracker, also of one that breaks the state rule, into an area of the image's length.
-// Answers a refusal number, or 0; a refused call leaves the area as it was.
-pub fn store(t: Tracker, area: &mut [u8]) -> u8
-    ensures { λ r. ⌜ stored r (now (area .exit)) ≡ storeOf t (now (area .entry)) ⌝ }
-{
-    if area.len() != IMAGE_BYTES {
-        return panel::number(Refusal::State);
-    }
-    writing::put_tracker(area, t);
-    0
-}
-
-// Writes a fresh tracker's image.
-pub fn store_fresh(area: &mut [u8]) -> u8
-    ensures { λ r. ⌜ stored r (now (area .exit)) ≡ storeOf freshTracker (now (area .entry)) ⌝ }
-{
-    if area.len() != IMAGE_BYTES {
-        return panel::number(Refusal::State);
-    }
-    writing::blank(area);
-    0
-}
-
-// The same of a tracker that keeps the state rule, and of no other.
+// Writes the image of a tracker that keeps the state rule into an area of the image's length. Answers a refusal number,
+// or 0; a refused call leaves the area as it was.
 pub fn encode(t: Tracker, area: &mut [u8]) -> u8
     ensures { λ r. ⌜ stored r (now (area .exit)) ≡ encodeOf t (now (area .entry)) ⌝ }
 {
+    if area.len() != IMAGE_BYTES {
+        return panel::number(Refusal::State);
+    }
     if gesture::state_ok(t) {
-        return store(t, area);
+        whole::put_tracker(area, t);
+        return 0;
     }
     panel::number(Refusal::State)
+}
+
+// The same of the fresh tracker, whose image is all zero.
+pub fn encode_fresh(area: &mut [u8]) -> u8
+    ensures { λ r. ⌜ stored r (now (area .exit)) ≡ encodeOf freshTracker (now (area .entry)) ⌝ }
+{
+    if area.len() != IMAGE_BYTES {
+        return panel::number(Refusal::State);
+    }
+    whole::blank(area);
+    0
 }

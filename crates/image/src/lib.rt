@@ -1,18 +1,23 @@
 // The byte image of a tracker, for a host that keeps it in an area of its own: one tracker has one image, and an
 // area that is no tracker's image is refused. docs/IMAGE.md has the layout.
-mod checks;
+mod calls;
 mod codec;
+mod ended;
 mod fields;
-mod places;
-mod reading;
-mod writing;
+mod finger;
+mod keys;
+mod numbers;
+mod settings;
+mod touches;
+mod whole;
 
+pub use calls::AreaGrab;
+pub use calls::grab_ms;
+pub use calls::make;
+pub use calls::plain;
 pub use codec::DecodeAnswer;
 pub use codec::decode;
 pub use codec::encode;
-pub use codec::found;
-pub use codec::grab_ms_in;
-pub use codec::store;
-pub use codec::store_fresh;
-pub use places::IMAGE_BYTES;
-pub use writing::image_of;
+pub use codec::encode_fresh;
+pub use numbers::ANSWER_NUMBERS;
+pub use settings::IMAGE_BYTES;

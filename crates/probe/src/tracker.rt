@@ -12,6 +12,7 @@ use gesture::Line;
 use gesture::Log;
 use gesture::Tracker;
 use image::DecodeAnswer;
+use image::IMAGE_BYTES;
 use panel::Axis;
 use panel::Point;
 
@@ -188,9 +189,10 @@ fn said(kind: u64, g: Given, t: Tracker) -> [Piece; PIECES] {
     given(g)
 }
 
-// The tracker's image, which ends the line.
+// The tracker's image, which ends the line. Every tracker here keeps the state rule, so that it is encoded.
 fn image(out: &mut [u8], at: usize, t: Tracker) -> usize {
-    let area = image::image_of(t);
+    let mut area = [0u8; IMAGE_BYTES];
+    image::encode(t, &mut area);
     let a = lines::byte(out, at, b' ');
     let b = lines::all_hex(out, a, &area);
     lines::byte(out, b, b'\n')

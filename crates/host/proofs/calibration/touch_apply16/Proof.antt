@@ -26,10 +26,17 @@ returns c =
     let s = c .before .before .before .before .a .given .0 .0 in
     let u : toZ w32 (ofZ w32 (s .0 .0)) ≡ s .0 .0 = search needs in
     let v : toZ w32 (ofZ w32 (s .1 .0)) ≡ s .1 .0 = search needs in
-    answered-spot _ _ _ _ _ (c .before .before .before .before .before .before .apply16 .ensures ∙ (λ i. applyOf (calOf (plain (c .before .before .before .before .before .before .before .fits .c0) i) (plain (c .before .before .before .before .before .before .before .fits .c1) i) (plain (c .before .before .before .before .before .before .before .fits .c2) i) (plain (c .before .before .before .before .before .before .before .fits .c3) i) (plain (c .before .before .before .before .before .before .before .fits .c4) i) (plain (c .before .before .before .before .before .before .before .fits .c5) i)) (plain (c .before .before .before .before .before .before .before .fits .x) i) (plain (c .before .before .before .before .before .before .before .fits .y) i))) (c .before .before .before .before .a .given .1) u v
+    let after-a = c .before .before .before .before in
+    let after-apply16 = after-a .before .before in
+    let at-start = after-apply16 .before in
+    answered-spot _ _ _ _ _ (after-apply16 .apply16 .ensures ∙ (λ i. applyOf (calOf (plain (at-start .fits .c0) i) (plain (at-start .fits .c1) i) (plain (at-start .fits .c2) i) (plain (at-start .fits .c3) i) (plain (at-start .fits .c4) i) (plain (at-start .fits .c5) i)) (plain (at-start .fits .x) i) (plain (at-start .fits .y) i))) (after-a .a .given .1) u v
 
 returns-2 : tie.Need-returns-2
-returns-2 c = refused-spot _ _ _ _ (c .before .before .before .before .before .apply16 .ensures ∙ (λ i. applyOf (calOf (plain (c .before .before .before .before .before .before .fits .c0) i) (plain (c .before .before .before .before .before .before .fits .c1) i) (plain (c .before .before .before .before .before .before .fits .c2) i) (plain (c .before .before .before .before .before .before .fits .c3) i) (plain (c .before .before .before .before .before .before .fits .c4) i) (plain (c .before .before .before .before .before .before .fits .c5) i)) (plain (c .before .before .before .before .before .before .fits .x) i) (plain (c .before .before .before .before .before .before .fits .y) i))) (c .before .before .before .a2 .given .1) (c .number-of .ensures)
+returns-2 c =
+    let after-a2 = c .before .before .before in
+    let after-apply16 = after-a2 .before .before in
+    let at-start = after-apply16 .before in
+    refused-spot _ _ _ _ (after-apply16 .apply16 .ensures ∙ (λ i. applyOf (calOf (plain (at-start .fits .c0) i) (plain (at-start .fits .c1) i) (plain (at-start .fits .c2) i) (plain (at-start .fits .c3) i) (plain (at-start .fits .c4) i) (plain (at-start .fits .c5) i)) (plain (at-start .fits .x) i) (plain (at-start .fits .y) i))) (after-a2 .a2 .given .1) (c .number-of .ensures)
 
 pub touch-apply16-spec : {M : Type 1} → statement M
 touch-apply16-spec =

@@ -1,18 +1,27 @@
 -- `host::calls::touch_capture` meets its contract. Assumes nothing.
-use Rattle.host.specs.Calling.{answerTo}
+use Rattle.host.proofs.Answering.{plain-call}
 use borrow.Author.Needs.{needs}
 use Rattle.host.proofs.calls.touch_capture.Statement.{statement}
 use Rattle.host.proofs.calls.touch_capture.Tie as tie
 
-made-requires : tie.Need-made-requires
-made-requires c κs = search needs
+plain-requires : tie.Need-plain-requires
+plain-requires c κs = search needs
+
+make-requires : tie.Need-make-requires
+make-requires c κs = search needs
+
+wide32-requires : tie.Need-wide32-requires
+wide32-requires c κs = search needs
 
 same-length : tie.Need-same-length
 same-length c = search needs
 
 returns : tie.Need-returns
-unfolding answerTo
-returns c = c .before .before .made .ensures
+returns c =
+    let after-make = c .before .before .before in
+    let after-plain = after-make .before .before in
+    plain-call _ _ _ _ (c .wide32 .ensures) _ _ _ (after-make .make .ensures) (after-plain .plain .ensures)
 
 pub touch-capture-spec : {M : Type 1} → statement M
-touch-capture-spec = tie.close (tie.spec made-requires same-length returns)
+touch-capture-spec =
+    tie.close (tie.spec plain-requires make-requires wide32-requires same-length returns)

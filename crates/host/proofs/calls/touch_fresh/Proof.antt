@@ -6,8 +6,8 @@ use borrow.Author.Needs.{needs}
 use Rattle.host.proofs.calls.touch_fresh.Statement.{statement}
 use Rattle.host.proofs.calls.touch_fresh.Tie as tie
 
-store-fresh-requires : tie.Need-store-fresh-requires
-store-fresh-requires c κs = search needs
+encode-fresh-requires : tie.Need-encode-fresh-requires
+encode-fresh-requires c κs = search needs
 
 wide32-requires : tie.Need-wide32-requires
 wide32-requires c κs = search needs
@@ -16,7 +16,7 @@ same-length : tie.Need-same-length
 same-length c = search needs
 
 returns : tie.Need-returns
-returns c = ap (λ (n : ℕ). stored n (c .before .before .before .store-fresh .last .0)) (c .wide32 .ensures) ∙ c .before .before .before .store-fresh .ensures
+returns c = ap (λ (n : ℕ). stored n (c .before .before .before .encode-fresh .last .0)) (c .wide32 .ensures) ∙ c .before .before .before .encode-fresh .ensures
 
 pub touch-fresh-spec : {M : Type 1} → statement M
-touch-fresh-spec = tie.close (tie.spec store-fresh-requires wide32-requires same-length returns)
+touch-fresh-spec = tie.close (tie.spec encode-fresh-requires wide32-requires same-length returns)

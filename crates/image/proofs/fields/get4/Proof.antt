@@ -57,7 +57,11 @@ add-result-3 : tie.Need-add-result-3
 add-result-3 c = search needs
 
 returns : tie.Need-returns
-returns c = (read-4 _ _ _ _ _ _ (c .before .before .before .before .before .before .wide8 .ensures .0) (c .before .before .before .before .wide82 .ensures .0) (c .before .before .wide83 .ensures .0) (c .wide84 .ensures .0), omega arith)
+returns c =
+    let after-wide83 = c .before .before in
+    let after-wide82 = after-wide83 .before .before in
+    let after-wide8 = after-wide82 .before .before in
+    (read-4 _ _ _ _ _ _ (after-wide8 .wide8 .ensures .0) (after-wide82 .wide82 .ensures .0) (after-wide83 .wide83 .ensures .0) (c .wide84 .ensures .0), omega arith)
 
 pub get4-spec : {M : Type 1} → statement M
 get4-spec =

@@ -5,7 +5,7 @@ use Prim.Native.Nat.{ℕ, _+_}
 use lib.Seq.{sets}
 use Rattle.image.specs.Rows.{bytesOf}
 use Rattle.image.specs.Image.{pointRows}
-use Rattle.image.specs.Puts.{puts}
+use Rattle.image.specs.code.Puts.{puts}
 use borrow.Author.Needs.{needs}
 use Rattle.image.proofs.fields.put_point.Statement.{statement}
 use Rattle.image.proofs.fields.put_point.Tie as tie
@@ -24,7 +24,11 @@ same-length c = search needs
 
 returns : tie.Need-returns
 unfolding puts pointRows
-returns c = c .before .before .put22 .ensures ∙ ap (λ (area : List ℕ). sets area (c .before .before .before .before .before .before .before .before .before .args .at + 2) (bytesOf 2 (c .before .before .before .before .before .before .before .before .before .args .p .y))) (c .before .before .before .before .before .before .put2 .ensures)
+returns c =
+    let after-put22 = c .before .before in
+    let after-put2 = after-put22 .before .before .before .before in
+    let at-start = after-put2 .before .before .before in
+    after-put22 .put22 .ensures ∙ ap (λ (area : List ℕ). sets area (at-start .args .at + 2) (bytesOf 2 (at-start .args .p .y))) (after-put2 .put2 .ensures)
 
 pub put-point-spec : {M : Type 1} → statement M
 put-point-spec = tie.close (tie.spec put2-requires add-put2 put2-requires-2 same-length returns)
