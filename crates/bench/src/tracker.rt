@@ -4,8 +4,10 @@ use crate::fold;
 use crate::held;
 use crate::held::Calls;
 use gesture::Answer;
+use gesture::Keys;
 use gesture::Line;
 use gesture::Log;
+use gesture::MultiEnd;
 use gesture::Touch;
 use gesture::Tracker;
 use panel::Event;
@@ -92,10 +94,14 @@ pub(crate) fn reports(c: Calls, calls: u64) -> u64 {
 // taken into their loops.
 fn touched(ev: Event, now: u64) -> Tracker {
     let p = ev.p;
-    let mut t = gesture::fresh();
-    t.touch = Touch::Down(p, now);
-    t.one = fingers::reset(p);
-    t
+    Tracker {
+        touch: Touch::Down(p, now),
+        one: fingers::reset(p),
+        app: fingers::untaken(),
+        multi_end: MultiEnd::Never,
+        keys: Keys { told: 0, wanted: 0 },
+        settings: fingers::unset(),
+    }
 }
 
 // So many ticks, while the finger of the first report is down.

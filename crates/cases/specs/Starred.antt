@@ -19,9 +19,9 @@ use Rattle.fingers.specs.declared.gestures.Gesture.the-variants.{Down, Tap, Dra
 use Rattle.gesture.specs.Calls.{Call, report, tick, answerOf}
 use Rattle.gesture.specs.Letters.{ascii-N}
 use Rattle.gesture.specs.Lines.{line}
+use Rattle.gesture.specs.Runs.{after}
 use Rattle.gesture.specs.Trackers.{freshTracker}
 use Rattle.gesture.specs.declared.answers.Given.the-variants.{Nothing, Gave}
-use Rattle.gesture.specs.declared.record.Tracker.{Tracker}
 use Rattle.panel.specs.declared.axes.Axis.the-variants.{H}
 use Rattle.panel.specs.declared.points.Point.{Point}
 
@@ -36,11 +36,6 @@ pub data Case : Type 0 where
   applies : Cal → ℕ → ℕ → ℤ → ℤ → Case
   -- check of the calibration with these targets
   checks : Cal → List Point → Verdict → Case
-
--- the tracker after calls
-unfoldable pub after : Tracker → List Call → Tracker
-after t [] = t
-after t (c ∷ cs) = after (answerOf t c .tracker) cs
 
 unfoldable pub Holds : Case → Type 0
 Holds (gives before c g) = answerOf (after freshTracker before) c .gesture ≡ Gave g

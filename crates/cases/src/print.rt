@@ -18,40 +18,6 @@ pub(crate) const SHIFT: u8 = 5;
 
 pub(crate) const RESID: u8 = 6;
 
-pub(crate) const DOWN: u8 = 7;
-
-pub(crate) const TAP: u8 = 8;
-
-pub(crate) const LONG_PRESS: u8 = 9;
-
-pub(crate) const DRAG: u8 = 10;
-
-pub(crate) const GRAB: u8 = 11;
-
-pub(crate) const UP: u8 = 12;
-
-pub(crate) const SWIPE_LEFT: u8 = 13;
-
-pub(crate) const SWIPE_RIGHT: u8 = 14;
-
-pub(crate) const SWIPE_UP: u8 = 15;
-
-pub(crate) const SWIPE_DOWN: u8 = 16;
-
-pub(crate) const CANCEL: u8 = 17;
-
-pub(crate) const MULTI_SWIPE_DOWN: u8 = 18;
-
-pub(crate) const KEY_DOWN: u8 = 19;
-
-pub(crate) const KEY_UP: u8 = 20;
-
-pub(crate) const MOVE: u8 = 21;
-
-pub(crate) const PINCH: u8 = 22;
-
-pub(crate) const PINCH_END: u8 = 23;
-
 pub(crate) fn word(text: &[u8]) {
     io::write_all(libc::STDOUT_FILENO, text);
 }
@@ -117,8 +83,7 @@ fn place(b: u8, k: u8) -> u8 {
 // Prints the name at that place, behind a space. The names stand in one list: a branch for each of them with its own
 // bytes is dear to prove.
 pub(crate) fn name(name: u8) {
-    let all =
-        b" - H V Pass Scale Shift Resid Down Tap LongPress Drag Grab Up SwipeLeft SwipeRight SwipeUp SwipeDown Cancel MultiSwipeDown KeyDown KeyUp Move Pinch PinchEnd";
+    let all = b" - H V Pass Scale Shift Resid";
     let mut k = 255;
     let mut i = 0;
     while i < all.len() {

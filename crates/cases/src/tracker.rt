@@ -5,7 +5,6 @@ use gesture::Answer;
 use gesture::Gesture;
 use gesture::Given;
 use gesture::Tracker;
-use panel::Axis;
 use panel::Event;
 use panel::Point;
 
@@ -13,58 +12,11 @@ fn at(x: u16, y: u16) -> Point {
     Point { x, y }
 }
 
-fn pointed(name: u8, p: Point) {
-    print::name(name);
-    print::point(p);
-}
-
-fn numbered(name: u8, n: u8) {
-    print::name(name);
-    print::number(n as u64);
-}
-
-fn dragged(p: Point, q: Point, a: Axis) {
-    pointed(print::DRAG, p);
-    print::point(q);
-    print::axis(a);
-}
-
-fn moved(p: Point, q: Point) {
-    pointed(print::MOVE, p);
-    print::point(q);
-}
-
-fn pinched(a: Axis, span0: u16, span: u16) {
-    print::name(print::PINCH);
-    print::axis(a);
-    print::number(span0 as u64);
-    print::number(span as u64);
-}
-
-fn ended(done: bool) {
-    numbered(print::PINCH_END, if done { 1 } else { 0 });
-}
-
+// Its words, a space before each.
 fn gesture(g: Gesture) {
-    match g {
-        Gesture::Down(p) => pointed(print::DOWN, p),
-        Gesture::Tap(p) => pointed(print::TAP, p),
-        Gesture::LongPress(p) => pointed(print::LONG_PRESS, p),
-        Gesture::Drag(p, q, a) => dragged(p, q, a),
-        Gesture::Grab(p) => pointed(print::GRAB, p),
-        Gesture::Up(p) => pointed(print::UP, p),
-        Gesture::SwipeLeft => print::name(print::SWIPE_LEFT),
-        Gesture::SwipeRight => print::name(print::SWIPE_RIGHT),
-        Gesture::SwipeUp => print::name(print::SWIPE_UP),
-        Gesture::SwipeDown => print::name(print::SWIPE_DOWN),
-        Gesture::Cancel => print::name(print::CANCEL),
-        Gesture::MultiSwipeDown(n) => numbered(print::MULTI_SWIPE_DOWN, n),
-        Gesture::KeyDown(k) => numbered(print::KEY_DOWN, k),
-        Gesture::KeyUp(k) => numbered(print::KEY_UP, k),
-        Gesture::Move(p, q) => moved(p, q),
-        Gesture::Pinch(a, s, t) => pinched(a, s, t),
-        Gesture::PinchEnd(done) => ended(done),
-    }
+    let t = text::gesture_text(g);
+    let bytes = t.bytes;
+    print::word(&bytes[..t.n]);
 }
 
 fn given(g: Given) {

@@ -39,7 +39,7 @@ fn locked(a: Axis) -> Reply {
     }
 }
 
-fn found(l: AxisLock) -> Reply {
+fn axis_or_none(l: AxisLock) -> Reply {
     match l {
         AxisLock::Free => lines::told(lines::DASH),
         AxisLock::On(a) => locked(a),
@@ -49,7 +49,7 @@ fn found(l: AxisLock) -> Reply {
 pub(crate) fn lock_axis(v: [u64; NUMBERS]) -> Reply {
     let l = panel::lock_axis(args::signed32(v[0]), args::signed32(v[1]));
     match l {
-        LockAnswer::Answered(a) => found(a),
+        LockAnswer::Answered(a) => axis_or_none(a),
         LockAnswer::Refused(why) => lines::refused(why),
     }
 }

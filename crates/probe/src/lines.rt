@@ -1,6 +1,6 @@
 // What is printed, gathered in one buffer. A line is a row of pieces, made by value and written in one place:
-// a function that hands the buffer on is dear to prove, one that makes a piece is not. The buffer is written
-// out before it could be full (see main).
+// a function that hands the buffer on is dear to prove, one that makes a piece is not. A gesture alone comes as its
+// bytes. The buffer is written out before it could be full (see main).
 use numbers::Cursor;
 use panel::Point;
 use panel::Refusal;
@@ -58,45 +58,11 @@ pub(crate) const SHIFT: u64 = 7;
 
 pub(crate) const RESID: u64 = 8;
 
-pub(crate) const DOWN: u64 = 9;
+const END: u64 = 9;
 
-pub(crate) const TAP: u64 = 10;
+const STOPPED: u64 = 10;
 
-pub(crate) const LONG_PRESS: u64 = 11;
-
-pub(crate) const DRAG: u64 = 12;
-
-pub(crate) const GRAB: u64 = 13;
-
-pub(crate) const UP: u64 = 14;
-
-pub(crate) const SWIPE_LEFT: u64 = 15;
-
-pub(crate) const SWIPE_RIGHT: u64 = 16;
-
-pub(crate) const SWIPE_UP: u64 = 17;
-
-pub(crate) const SWIPE_DOWN: u64 = 18;
-
-pub(crate) const CANCEL: u64 = 19;
-
-pub(crate) const MULTI_SWIPE_DOWN: u64 = 20;
-
-pub(crate) const KEY_DOWN: u64 = 21;
-
-pub(crate) const KEY_UP: u64 = 22;
-
-pub(crate) const MOVE: u64 = 23;
-
-pub(crate) const PINCH: u64 = 24;
-
-pub(crate) const PINCH_END: u64 = 25;
-
-const END: u64 = 26;
-
-const STOPPED: u64 = 27;
-
-const AT: u64 = 28;
+const AT: u64 = 11;
 
 pub(crate) fn nothing() -> Piece {
     Piece { how: NOTHING, v: 0 }
@@ -245,11 +211,10 @@ fn next_word(b: u8, k: u64) -> u64 {
     k
 }
 
-// The words that are printed, each at its place: those of the calibration, the gestures as the trace
-// program prints them, and those of a last line. A new word goes behind the last.
+// The words that are printed, each at its place: those of the calibration, and those of a last line. A new word goes
+// behind the last. The words of a gesture are in `text`.
 fn word(out: &mut [u8], at: usize, word: u64) -> usize {
-    let w =
-        b"- | H V NaN Ok Scale Shift Resid Down Tap LongPress Drag Grab Up SwipeLeft SwipeRight SwipeUp SwipeDown Cancel MultiSwipeDown KeyDown KeyUp Move Pinch PinchEnd end stopped at";
+    let w = b"- | H V NaN Ok Scale Shift Resid end stopped at";
     let mut to = at;
     let mut k = 0;
     let mut i = 0;
@@ -262,7 +227,7 @@ fn word(out: &mut [u8], at: usize, word: u64) -> usize {
     to
 }
 
-fn text(out: &mut [u8], at: usize, w: &[u8]) -> usize {
+pub(crate) fn text(out: &mut [u8], at: usize, w: &[u8]) -> usize {
     let mut to = at;
     let mut i = 0;
     while i < w.len() {
@@ -296,7 +261,7 @@ fn behind_space(out: &mut [u8], at: usize, how: u8, v: u64) -> usize {
     }
 }
 
-fn put(out: &mut [u8], at: usize, p: Piece) -> usize {
+pub(crate) fn put(out: &mut [u8], at: usize, p: Piece) -> usize {
     if p.how == NOTHING {
         return at;
     }

@@ -30,18 +30,18 @@ pub(crate) struct Beside {
     pub to: Cursor,
 }
 
-struct Spot {
+struct Coordinates {
     x: u64,
     y: u64,
     to: Cursor,
 }
 
-fn spot_at(s: &[u8], c: Cursor) -> Spot {
+fn coordinates_at(s: &[u8], c: Cursor) -> Coordinates {
     let x = numbers::next_number(s, c, args::MOST_16);
     let cx = x.to;
     let y = numbers::next_number(s, cx, args::MOST_16);
     let to = y.to;
-    Spot { x: x.v, y: y.v, to }
+    Coordinates { x: x.v, y: y.v, to }
 }
 
 fn tap(x: u64, y: u64) -> Tap {
@@ -80,7 +80,7 @@ fn taps_at(s: &[u8], c: Cursor) -> Taps {
     let mut to = count.to;
     let mut i = 0;
     while i < n {
-        let p = spot_at(s, to);
+        let p = coordinates_at(s, to);
         to = p.to;
         let q = tap(p.x, p.y);
         let k = tap_slot(i);
@@ -97,7 +97,7 @@ pub(crate) fn targets_at(s: &[u8], c: Cursor) -> Targets {
     let mut to = count.to;
     let mut i = 0;
     while i < n {
-        let p = spot_at(s, to);
+        let p = coordinates_at(s, to);
         to = p.to;
         let q = args::point(p.x, p.y);
         let k = target_slot(i);

@@ -10,7 +10,7 @@ use gesture::Answer;
 use numbers::Cursor;
 
 // What such a call is answered with, and where it ends.
-pub(crate) struct Told {
+pub(crate) struct Replied {
     pub reply: Reply,
     pub to: Cursor,
 }
@@ -34,38 +34,38 @@ fn plain(kind: u64, v: [u64; NUMBERS]) -> Reply {
     }
 }
 
-fn resid(s: &[u8], kind: u64, v: [u64; NUMBERS], c: Cursor) -> Told {
+fn resid(s: &[u8], kind: u64, v: [u64; NUMBERS], c: Cursor) -> Replied {
     let b = lists::beside_at(s, c);
     let to = b.to;
     let reply = calibration::resid(kind, v, b);
-    Told { reply, to }
+    Replied { reply, to }
 }
 
-fn check(s: &[u8], v: [u64; NUMBERS], c: Cursor) -> Told {
+fn check(s: &[u8], v: [u64; NUMBERS], c: Cursor) -> Replied {
     let t = lists::targets_at(s, c);
     let to = t.to;
     let reply = calibration::check(v, t);
-    Told { reply, to }
+    Replied { reply, to }
 }
 
-fn fit(s: &[u8], kind: u64, c: Cursor) -> Told {
+fn fit(s: &[u8], kind: u64, c: Cursor) -> Replied {
     let b = lists::beside_at(s, c);
     let cb = b.to;
     let t = lists::targets_at(s, cb);
     let to = t.to;
     let reply = calibration::fit(kind, b, t);
-    Told { reply, to }
+    Replied { reply, to }
 }
 
 // A call of another kind is read no further here.
-pub(crate) fn answered(s: &[u8], kind: u64, v: [u64; NUMBERS], c: Cursor) -> Told {
+pub(crate) fn answered(s: &[u8], kind: u64, v: [u64; NUMBERS], c: Cursor) -> Replied {
     match kind {
         14 | 44 => resid(s, kind, v, c),
         15 => check(s, v, c),
         19 | 49 => fit(s, kind, c),
         _ => {
             let reply = plain(kind, v);
-            Told { reply, to: c }
+            Replied { reply, to: c }
         }
     }
 }

@@ -6,6 +6,8 @@ use crate::lines;
 use crate::lines::PIECES;
 use crate::lines::Piece;
 use gesture::Answer;
+use gesture::Call;
+use gesture::CallKind;
 use gesture::Gesture;
 use gesture::Given;
 use gesture::Line;
@@ -13,101 +15,18 @@ use gesture::Log;
 use gesture::Tracker;
 use image::DecodeAnswer;
 use image::IMAGE_BYTES;
-use panel::Axis;
-use panel::Point;
 
-fn axis(a: Axis) -> u64 {
-    match a {
-        Axis::H => lines::H,
-        Axis::V => lines::V,
-    }
+// Its words, a space before each: as the trace program prints it.
+fn gesture(out: &mut [u8], at: usize, g: Gesture) -> usize {
+    let t = text::gesture_text(g);
+    let words = t.bytes;
+    lines::text(out, at, &words[..t.n])
 }
 
-fn alone(word: u64) -> [Piece; PIECES] {
-    lines::one(lines::named(word))
-}
-
-fn pointed(word: u64, p: Point) -> [Piece; PIECES] {
-    lines::three(
-        lines::named(word),
-        lines::number(p.x as u64),
-        lines::number(p.y as u64),
-    )
-}
-
-fn numbered(word: u64, n: u8) -> [Piece; PIECES] {
-    lines::three(
-        lines::named(word),
-        lines::number(n as u64),
-        lines::nothing(),
-    )
-}
-
-// Two points, and a piece behind them.
-fn between(word: u64, p: Point, q: Point, z: Piece) -> [Piece; PIECES] {
-    lines::row(
-        lines::named(word),
-        lines::number(p.x as u64),
-        lines::number(p.y as u64),
-        lines::number(q.x as u64),
-        lines::number(q.y as u64),
-        z,
-        lines::nothing(),
-    )
-}
-
-fn dragged(p: Point, q: Point, x: Axis) -> [Piece; PIECES] {
-    between(lines::DRAG, p, q, lines::named(axis(x)))
-}
-
-fn moved(p: Point, q: Point) -> [Piece; PIECES] {
-    between(lines::MOVE, p, q, lines::nothing())
-}
-
-fn pinched(x: Axis, span0: u16, span: u16) -> [Piece; PIECES] {
-    let z = lines::nothing();
-    lines::row(
-        lines::named(lines::PINCH),
-        lines::named(axis(x)),
-        lines::number(span0 as u64),
-        lines::number(span as u64),
-        z,
-        z,
-        z,
-    )
-}
-
-fn ended(released: bool) -> [Piece; PIECES] {
-    numbered(lines::PINCH_END, if released { 1 } else { 0 })
-}
-
-// As the trace program prints it.
-fn gesture(g: Gesture) -> [Piece; PIECES] {
+fn given(out: &mut [u8], at: usize, g: Given) -> usize {
     match g {
-        Gesture::Down(p) => pointed(lines::DOWN, p),
-        Gesture::Tap(p) => pointed(lines::TAP, p),
-        Gesture::LongPress(p) => pointed(lines::LONG_PRESS, p),
-        Gesture::Drag(p, q, a) => dragged(p, q, a),
-        Gesture::Grab(p) => pointed(lines::GRAB, p),
-        Gesture::Up(p) => pointed(lines::UP, p),
-        Gesture::SwipeLeft => alone(lines::SWIPE_LEFT),
-        Gesture::SwipeRight => alone(lines::SWIPE_RIGHT),
-        Gesture::SwipeUp => alone(lines::SWIPE_UP),
-        Gesture::SwipeDown => alone(lines::SWIPE_DOWN),
-        Gesture::Cancel => alone(lines::CANCEL),
-        Gesture::MultiSwipeDown(n) => numbered(lines::MULTI_SWIPE_DOWN, n),
-        Gesture::KeyDown(k) => numbered(lines::KEY_DOWN, k),
-        Gesture::KeyUp(k) => numbered(lines::KEY_UP, k),
-        Gesture::Move(p, q) => moved(p, q),
-        Gesture::Pinch(a, s, t) => pinched(a, s, t),
-        Gesture::PinchEnd(released) => ended(released),
-    }
-}
-
-fn given(g: Given) -> [Piece; PIECES] {
-    match g {
-        Given::Nothing => alone(lines::DASH),
-        Given::Gave(g) => gesture(g),
+        Given::Nothing => lines::put(out, at, lines::named(lines::DASH)),
+        Given::Gave(g) => gesture(out, at, g),
     }
 }
 
@@ -146,17 +65,30 @@ fn quiet(refusal: u8, t: Tracker) -> Answer {
     }
 }
 
-// The call of that kind; one that is not of the tracker leaves it.
-pub(crate) fn made(kind: u64, v: [u64; NUMBERS], d: DecodeAnswer, t: Tracker) -> Answer {
-    let x = v[0];
+// Which call it is, by the kinds 31 to 36.
+fn call_kind(kind: u64, x: u64) -> CallKind {
+    match kind {
+        31 => CallKind::Report(x),
+        32 => CallKind::Tick(x),
+        33 => CallKind::Capture,
+        34 => CallKind::CaptureDirect,
+        35 => CallKind::RawNext(x != 0),
+        _ => CallKind::SetGrabMs(args::low16(x)),
+    }
+}
+
+fn call(kind: u64, v: [u64; NUMBERS]) -> Call {
+    Call {
+        kind: call_kind(kind, v[0]),
+        event: args::report(v),
+    }
+}
+
+// What a call of that kind answers; one that is not of the tracker leaves it.
+pub(crate) fn answer_to(kind: u64, v: [u64; NUMBERS], d: DecodeAnswer, t: Tracker) -> Answer {
     match kind {
         30 => quiet(0, gesture::fresh()),
-        31 => gesture::event(t, args::report(v), x),
-        32 => gesture::tick(t, x),
-        33 => gesture::capture(t),
-        34 => gesture::capture_direct(t),
-        35 => gesture::raw_next(t, x != 0),
-        36 => gesture::set_grab_ms(t, args::low16(x)),
+        31..=36 => gesture::make(t, call(kind, v)),
         37 => grabbed(t),
         38 => loaded(d, t),
         _ => quiet(0, t),
@@ -168,9 +100,9 @@ fn grabbed(t: Tracker) -> Answer {
     r.answer
 }
 
-fn grab_ms(t: Tracker) -> [Piece; PIECES] {
+fn grab_ms(out: &mut [u8], at: usize, t: Tracker) -> usize {
     let r = gesture::grab_ms(t);
-    lines::one(lines::number(r.ms as u64))
+    lines::put(out, at, lines::number(r.ms as u64))
 }
 
 // Bytes taken as the tracker's image.
@@ -182,11 +114,11 @@ fn loaded(d: DecodeAnswer, t: Tracker) -> Answer {
 }
 
 // The gesture; of grab_ms the number stands in its place.
-fn said(kind: u64, g: Given, t: Tracker) -> [Piece; PIECES] {
+fn said(out: &mut [u8], at: usize, kind: u64, g: Given, t: Tracker) -> usize {
     if kind == 37 {
-        return grab_ms(t);
+        return grab_ms(out, at, t);
     }
-    given(g)
+    given(out, at, g)
 }
 
 // The tracker's image, which ends the line. Every tracker here keeps the state rule, so that it is encoded.
@@ -198,23 +130,13 @@ fn image(out: &mut [u8], at: usize, t: Tracker) -> usize {
     lines::byte(out, b, b'\n')
 }
 
-fn whole(
-    out: &mut [u8],
-    at: usize,
-    said: [Piece; PIECES],
-    l: [Piece; PIECES],
-    t: Tracker,
-) -> usize {
-    let a = lines::pieces(out, at, said);
-    let b = lines::pieces(out, a, l);
-    image(out, b, t)
-}
-
 // The tracker line.
 pub(crate) fn line(out: &mut [u8], at: usize, i: u64, kind: u64, a: Answer) -> usize {
     let g = a.gesture;
     let l = a.log;
     let t = a.tracker;
     let b = lines::head(out, at, i, a.refusal);
-    whole(out, b, said(kind, g, t), log(l), t)
+    let c = said(out, b, kind, g, t);
+    let d = lines::pieces(out, c, log(l));
+    image(out, d, t)
 }

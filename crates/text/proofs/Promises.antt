@@ -8,6 +8,7 @@ use mathlib.Core.Path.{_≡_, refl, sym, ap, _∙_}
 use native.Mathlib.Omega.{arith}
 use lib.ListN.{length, take, drop, length-append}
 use lib.Seq.{length-take-le}
+use Rattle.fingers.specs.declared.gestures.Gesture.{Gesture}
 use Rattle.gesture.proofs.Keeps.{fresh-kept, call-kept}
 use Rattle.gesture.proofs.Promises.{numberIn, call-tells}
 use Rattle.gesture.specs.Calls.{Call, answerOf}
@@ -20,8 +21,10 @@ use Rattle.panel.proofs.Promises.{one-answer}
 use Rattle.panel.specs.Refusals.{Told}
 use Rattle.panel.specs.Tests.{if_then_else_, _≤?_}
 use Rattle.panel.specs.declared.refusals.Refusal.the-variants.{Room}
+use Rattle.text.specs.Gestures.{gestureTextOf}
 use Rattle.text.specs.Played.{roomFor, playedOf, leftOf, toldPlayed}
 use Rattle.text.specs.Texts.{linesFrom, lastLine, printed, textOf}
+use Rattle.text.specs.declared.gestures.GestureText.{GestureText}
 use Rattle.text.specs.declared.playing.Played.{Played}
 use Rattle.text.specs.declared.playing.Played.the-variants.{Wrote, Refused}
 use Rattle.trace.specs.Traces.{traceIn}
@@ -86,3 +89,6 @@ module _ (bytes room : List ℕ) where
 
   pub left-unique : {r s : List ℕ} → r ≡ leftOf bytes room → s ≡ leftOf bytes room → r ≡ s
   left-unique = one-answer
+
+pub gesture-text-unique : (g : Gesture) {r s : GestureText} → r ≡ gestureTextOf g → s ≡ gestureTextOf g → r ≡ s
+gesture-text-unique g = one-answer

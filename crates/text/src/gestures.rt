@@ -1,9 +1,9 @@
-// The words of a gesture: its name and its numbers in the order of the Rust's fields.
+// The words of a gesture: its name and its numbers in the order of the Rust's fields. No other crate has the names.
 ghost use mathlib.Core.Path.{_≡_};
 ghost use mathlib.Core.List.{[], _∷_};
 ghost use Prim.Native.Nat.{_+_, _≤_, _<_};
 ghost use lib.ListN.{length};
-ghost use Rattle.text.specs.Gestures.{wordsOf};
+ghost use Rattle.text.specs.Gestures.{wordsOf, gestureTextOf};
 ghost use Rattle.text.specs.Sizes.{smallEnd, nameMost, pointNameMost, wordsMost};
 ghost use Rattle.text.specs.Words.{decimal, spaced};
 ghost use Rattle.text.specs.code.Written.{Written};
@@ -12,6 +12,15 @@ use crate::words;
 use gesture::Gesture;
 use panel::Axis;
 use panel::Point;
+
+// The room that the longest words take: `Drag`, four coordinates of five digits, and the axis.
+pub const WORDS_MOST: usize = 31;
+
+// The words of a gesture by value: the first n bytes, with a space before each word. Behind them are zeros.
+pub struct GestureText {
+    pub bytes: [u8; WORDS_MOST],
+    pub n: usize,
+}
 
 fn with_number(out: &mut [u8], at: usize, name: &[u8], v: u64) -> usize
     requires { ⌜ (length (now name) ≤ nameMost) × (v < smallEnd) × (at + wordsMost ≤ length (now out)) ⌝ }
@@ -85,6 +94,21 @@ pub(crate) fn gesture_words(out: &mut [u8], at: usize, g: Gesture) -> usize
         Gesture::KeyUp(key) => with_number(out, at, b"KeyUp", key as u64),
         Gesture::Move(prev, p) => moved(out, at, prev, p),
         Gesture::Pinch(axis, span0, span) => pinch(out, at, axis, span0, span),
-        Gesture::PinchEnd(released) => with_number(out, at, b"PinchEnd", panel::bit(released) as u64),
+        Gesture::PinchEnd(released) => with_number(
+            out,
+            at,
+            b"PinchEnd",
+            panel::bit(released) as u64,
+        ),
     }
+}
+
+// The words of a gesture, for a program that prints it in lines of its own.
+pub fn gesture_text(g: Gesture) -> GestureText
+    ensures { λ r. ⌜ r ≡ gestureTextOf g ⌝ }
+    ensures { λ r. ⌜ r .n ≤ length (r .bytes) ⌝ }
+{
+    let mut bytes = [0u8; WORDS_MOST];
+    let n = gesture_words(&mut bytes, 0, g);
+    GestureText { bytes, n }
 }

@@ -5,10 +5,10 @@ use Rattle.cases.proofs.print.name.Statement.{statement}
 use Rattle.cases.proofs.print.name.Tie as tie
 
 abbrev Inv-loop : tie.InvT-loop
-Inv-loop name all k₀ i₀ k i = i ≤ 156
+Inv-loop name all k₀ i₀ k i = i ≤ 29
 
 abbrev μ-loop : tie.MeasureT-loop
-μ-loop name all k₀ i₀ k i = 156 - i
+μ-loop name all k₀ i₀ k i = 29 - i
 
 loop-holds : tie.Need-loop-holds Inv-loop μ-loop
 loop-holds c = search needs

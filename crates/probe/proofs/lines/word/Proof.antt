@@ -7,10 +7,10 @@ use Rattle.probe.proofs.lines.word.Statement.{statement}
 use Rattle.probe.proofs.lines.word.Tie as tie
 
 abbrev Inv-loop : tie.InvT-loop
-Inv-loop out₀ at word w to₀ k₀ i₀ out to k i = (i ≤ 174) × (length out ≡ length out₀)
+Inv-loop out₀ at word w to₀ k₀ i₀ out to k i = (i ≤ 47) × (length out ≡ length out₀)
 
 abbrev μ-loop : tie.MeasureT-loop
-μ-loop out₀ at word w to₀ k₀ i₀ out to k i = 174 - i
+μ-loop out₀ at word w to₀ k₀ i₀ out to k i = 47 - i
 
 loop-holds : tie.Need-loop-holds Inv-loop μ-loop
 loop-holds c = search needs

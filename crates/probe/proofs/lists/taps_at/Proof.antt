@@ -27,8 +27,8 @@ no-taps-requires c κs = search needs
 loop-holds : tie.Need-loop-holds Inv-loop μ-loop
 loop-holds c = search needs
 
-spot-at-requires : tie.Need-spot-at-requires Inv-loop μ-loop
-spot-at-requires c κs = search needs
+coordinates-at-requires : tie.Need-coordinates-at-requires Inv-loop μ-loop
+coordinates-at-requires c κs = search needs
 
 tap-requires : tie.Need-tap-requires Inv-loop μ-loop
 tap-requires c κs = search needs
@@ -65,7 +65,7 @@ taps-at-spec =
     cast-n
     no-taps-requires
     loop-holds
-    spot-at-requires
+    coordinates-at-requires
     tap-requires
     tap-slot-requires
     mul-list

@@ -27,8 +27,8 @@ no-targets-requires c κs = search needs
 loop-holds : tie.Need-loop-holds Inv-loop μ-loop
 loop-holds c = search needs
 
-spot-at-requires : tie.Need-spot-at-requires Inv-loop μ-loop
-spot-at-requires c κs = search needs
+coordinates-at-requires : tie.Need-coordinates-at-requires Inv-loop μ-loop
+coordinates-at-requires c κs = search needs
 
 point-requires : tie.Need-point-requires Inv-loop μ-loop
 point-requires c κs = search needs
@@ -65,7 +65,7 @@ targets-at-spec =
     cast-n
     no-targets-requires
     loop-holds
-    spot-at-requires
+    coordinates-at-requires
     point-requires
     target-slot-requires
     mul-list
