@@ -27,12 +27,12 @@ pub struct One {
 
 // What the app made of the touch. It outlives the touch too.
 pub struct App {
-    // The app owns this touch: its release, if it has one finger to the end, is no swipe and no tap.
-    pub captured: bool,
     // Raw-move touch: raw_next was on at the capture.
     pub raw: bool,
     // Captured with capture_direct: no hold-to-grab for this touch.
     pub direct: bool,
+    // The app owns this touch: its release, if it has one finger to the end, is no swipe and no tap.
+    pub captured: bool,
 }
 
 pub struct OneStep {

@@ -31,11 +31,11 @@ pub enum MultiEnd {
 
 // Of the orders tried, the one in which the calls take the fewest instructions, as also in One (docs/BENCH.md).
 pub struct Tracker {
-    pub touch: Touch,
+    pub app: App,
     pub multi_end: MultiEnd,
     pub keys: Keys,
     pub settings: Settings,
-    pub app: App,
+    pub touch: Touch,
     pub one: One,
 }
 

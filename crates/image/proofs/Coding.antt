@@ -9,7 +9,7 @@ use Rattle.panel.specs.declared.axes.Axis.{Axis}
 use Rattle.fingers.specs.declared.gestures.Gesture.{Gesture}
 use Rattle.fingers.specs.declared.gestures.Gesture.the-variants.{Drag, Pinch, PinchEnd}
 use Rattle.image.specs.Numbers.{coded, gestureNumbers}
-use Rattle.image.specs.declared.numbers.GestureNumbers.{GestureNumbers}
+use Rattle.image.specs.declared.c_numbers.GestureNumbers.{GestureNumbers}
 
 module _ (g : Gesture) (r : GestureNumbers) (n : ℕ) where
   pub drag-numbers : (start p : Point) (a : Axis) → g ≡ Drag start p a → n ≡ axisNumber a → r ≡ coded 4 (start .x) (start .y) (p .x) (p .y) n → r ≡ gestureNumbers g

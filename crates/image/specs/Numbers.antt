@@ -13,8 +13,8 @@ use Rattle.gesture.specs.declared.lines.Log.the-variants.{Silent, Logged}
 use Rattle.gesture.specs.declared.answers.Given.{Given}
 use Rattle.gesture.specs.declared.answers.Given.the-variants.{Nothing, Gave}
 use Rattle.gesture.specs.declared.answers.Answer.{Answer}
-use Rattle.image.specs.declared.numbers.GestureNumbers.{GestureNumbers}
-use Rattle.image.specs.declared.numbers.LogNumbers.{LogNumbers}
+use Rattle.image.specs.declared.c_numbers.GestureNumbers.{GestureNumbers}
+use Rattle.image.specs.declared.c_numbers.LogNumbers.{LogNumbers}
 
 -- a gesture's code and its numbers, zero where it has no more
 abbrev pub coded : ℕ → ℕ → ℕ → ℕ → ℕ → ℕ → GestureNumbers

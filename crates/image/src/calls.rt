@@ -11,8 +11,8 @@ ghost use Rattle.image.specs.Calls.{left, finished, madeOn, plainCall, g
 ghost use Rattle.image.specs.code.Settings.{at-end};
 use crate::codec;
 use crate::codec::DecodeAnswer;
-use crate::numbers;
-use crate::numbers::ANSWER_NUMBERS;
+use crate::c_numbers;
+use crate::c_numbers::ANSWER_NUMBERS;
 use crate::settings;
 use crate::settings::IMAGE_BYTES;
 use crate::whole;
@@ -35,7 +35,7 @@ fn finish(area: &mut [u8], a: Answer, out: &mut [u64; ANSWER_NUMBERS]) -> u8
 {
     if a.refusal == 0 {
         let t = a.tracker;
-        let numbers = numbers::numbers_of(a);
+        let numbers = c_numbers::numbers_of(a);
         whole::put_tracker(area, t);
         *out = numbers;
         return 0;

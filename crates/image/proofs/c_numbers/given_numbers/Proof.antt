@@ -1,9 +1,9 @@
--- `image::numbers::given_numbers` meets its contract. Assumes nothing.
+-- `image::c_numbers::given_numbers` meets its contract. Assumes nothing.
 use mathlib.Core.Path.{sym, _∙_, ap}
 use Rattle.image.specs.Numbers.{givenNumbers}
 use borrow.Author.Needs.{needs}
-use Rattle.image.proofs.numbers.given_numbers.Statement.{statement}
-use Rattle.image.proofs.numbers.given_numbers.Tie as tie
+use Rattle.image.proofs.c_numbers.given_numbers.Statement.{statement}
+use Rattle.image.proofs.c_numbers.given_numbers.Tie as tie
 
 enum-told : tie.Need-enum-told
 enum-told c = search needs

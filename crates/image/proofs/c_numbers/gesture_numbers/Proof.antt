@@ -1,10 +1,10 @@
--- `image::numbers::gesture_numbers` meets its contract. Assumes nothing.
+-- `image::c_numbers::gesture_numbers` meets its contract. Assumes nothing.
 use mathlib.Core.Path.{sym, _∙_, ap}
 use Rattle.image.specs.Numbers.{gestureNumbers}
 use Rattle.image.proofs.Coding.{drag-numbers, pinch-numbers, pinch-end-numbers}
 use borrow.Author.Needs.{needs}
-use Rattle.image.proofs.numbers.gesture_numbers.Statement.{statement}
-use Rattle.image.proofs.numbers.gesture_numbers.Tie as tie
+use Rattle.image.proofs.c_numbers.gesture_numbers.Statement.{statement}
+use Rattle.image.proofs.c_numbers.gesture_numbers.Tie as tie
 
 enum-known-g : tie.Need-enum-known-g
 enum-known-g c = search needs

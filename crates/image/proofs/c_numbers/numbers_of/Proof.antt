@@ -1,8 +1,8 @@
--- `image::numbers::numbers_of` meets its contract. Assumes nothing.
+-- `image::c_numbers::numbers_of` meets its contract. Assumes nothing.
 use Rattle.image.specs.Numbers.{listed, numbersOf}
 use borrow.Author.Needs.{needs}
-use Rattle.image.proofs.numbers.numbers_of.Statement.{statement}
-use Rattle.image.proofs.numbers.numbers_of.Tie as tie
+use Rattle.image.proofs.c_numbers.numbers_of.Statement.{statement}
+use Rattle.image.proofs.c_numbers.numbers_of.Tie as tie
 
 given-numbers-requires : tie.Need-given-numbers-requires
 given-numbers-requires c κs = search needs

@@ -1,8 +1,8 @@
--- `image::numbers::counted` meets its contract. Assumes nothing.
+-- `image::c_numbers::counted` meets its contract. Assumes nothing.
 use Rattle.image.specs.Numbers.{coded}
 use borrow.Author.Needs.{needs}
-use Rattle.image.proofs.numbers.counted.Statement.{statement}
-use Rattle.image.proofs.numbers.counted.Tie as tie
+use Rattle.image.proofs.c_numbers.counted.Statement.{statement}
+use Rattle.image.proofs.c_numbers.counted.Tie as tie
 
 wide8-requires : tie.Need-wide8-requires
 wide8-requires c κs = search needs

@@ -1,8 +1,8 @@
--- `image::numbers::between` meets its contract. Assumes nothing.
+-- `image::c_numbers::between` meets its contract. Assumes nothing.
 use Rattle.image.specs.Numbers.{coded}
 use borrow.Author.Needs.{needs}
-use Rattle.image.proofs.numbers.between.Statement.{statement}
-use Rattle.image.proofs.numbers.between.Tie as tie
+use Rattle.image.proofs.c_numbers.between.Statement.{statement}
+use Rattle.image.proofs.c_numbers.between.Tie as tie
 
 wide16-requires : tie.Need-wide16-requires
 wide16-requires c κs = search needs
