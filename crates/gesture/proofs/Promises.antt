@@ -15,10 +15,11 @@ use Rattle.gesture.specs.Ticks.{tickStep}
 use Rattle.gesture.specs.Lines.{isLocked, reportLine, tickLine, captureLine}
 use Rattle.gesture.specs.Captures.{takes, taken, wished, afterCaptureDirect, afterSetGrab}
 use Rattle.gesture.specs.Answers.{refused, answered, givenBy, pointsInUse, reported, ticked, captured, eventOf, tickOf, captureOf, captureDirectOf, rawNextOf, setGrabOf, grabOf}
-use Rattle.gesture.specs.Calls.{Call, report, tick, capture, captureDirect, rawNext, setGrabMs, answerOf}
+use Rattle.gesture.specs.Calls.{Call, report, tick, capture, captureDirect, rawNext, setGrabMs, answerOf, callOf}
 use Rattle.gesture.specs.declared.record.Tracker.{Tracker}
 use Rattle.gesture.specs.declared.lines.Log.{Log}
 use Rattle.gesture.specs.declared.lines.Log.the-variants.{Silent}
+use Rattle.gesture.specs.declared.making.Call as value
 use Rattle.gesture.specs.declared.answers.Given.{Given}
 use Rattle.gesture.specs.declared.answers.Given.the-variants.{Nothing}
 use Rattle.gesture.specs.declared.answers.Answer.{Answer}
@@ -148,3 +149,6 @@ state-unique t = one-answer
 
 pub fresh-unique : {r s : Tracker} → r ≡ freshTracker → s ≡ freshTracker → r ≡ s
 fresh-unique = one-answer
+
+pub make-unique : (t : Tracker) (c : value.Call) {r s : Answer} → r ≡ answerOf t (callOf c) → s ≡ answerOf t (callOf c) → r ≡ s
+make-unique t c = one-answer

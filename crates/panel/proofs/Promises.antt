@@ -6,13 +6,14 @@ use mathlib.Core.Path.{_≡_, refl, sym, _∙_}
 use mathlib.Core.List.{List, [], _∷_, map}
 use lib.IntN.{ℤ, natAbs}
 use native.Mathlib.Omega.{arith}
-use Rattle.panel.specs.Axes.{axisOf, lockOf, toldLock}
+use Rattle.panel.specs.Axes.{axisOf, lockOf, toldLock, axisNumber}
 use Rattle.panel.specs.Centroids.{middle, centroidOf, toldCentroid}
 use Rattle.panel.specs.Distances.{difference, distance, distance2, distOf, dist2Of, toldDist}
 use Rattle.panel.specs.Points.{onPanel, allOnPanel, fingers, firstPoints}
 use Rattle.panel.specs.Refusals.{numberOf, Told}
 use Rattle.panel.specs.Sizes.{lockWide}
-use Rattle.panel.specs.Tests.{if_then_else_, _and_, _≤?_}
+use Rattle.panel.specs.Tests.{if_then_else_, _and_, _≤?_, bit}
+use Rattle.panel.specs.declared.axes.Axis.{Axis}
 use Rattle.panel.specs.declared.axes.AxisLock.{AxisLock}
 use Rattle.panel.specs.declared.axes.AxisLock.the-variants.{Free}
 use Rattle.panel.specs.declared.axes.LockAnswer.{LockAnswer}
@@ -117,6 +118,12 @@ magnitude-unique v = one-answer
 
 pub axis-along-unique : (ax ay : ℕ) {r s : AxisLock} → r ≡ axisOf ax ay → s ≡ axisOf ax ay → r ≡ s
 axis-along-unique ax ay = one-answer
+
+pub axis-number-unique : (a : Axis) {r s : ℕ} → r ≡ axisNumber a → s ≡ axisNumber a → r ≡ s
+axis-number-unique a = one-answer
+
+pub bit-unique : (b : Bool) {r s : ℕ} → r ≡ bit b → s ≡ bit b → r ≡ s
+bit-unique b = one-answer
 
 pub lock-unique : (dx dy : ℤ) {r s : LockAnswer} → r ≡ lockOf dx dy → s ≡ lockOf dx dy → r ≡ s
 lock-unique dx dy = one-answer
