@@ -3,7 +3,7 @@
 // one number, which is printed: the Rust beside it prints the same.
 mod fits;
 mod fold;
-mod held;
+mod rounds;
 mod rows;
 mod tracker;
 mod values;
@@ -13,12 +13,12 @@ use numbers::Cursor;
 // A row by its number.
 fn row(s: &[u8], kind: u64, calls: u64, to: Cursor) -> u64 {
     match kind {
-        1 => tracker::reports(held::calls_at(s, to), calls),
+        1 => tracker::reports(rounds::calls_at(s, to), calls),
         2 => rows::apply16(values::at(s, to), calls),
         3 => rows::isqrt(values::at(s, to), calls),
         4 => rows::q16(values::at(s, to), calls),
         5 => fits::fit(values::at(s, to), calls),
-        6 => tracker::ticks(held::calls_at(s, to), calls),
+        6 => tracker::ticks(rounds::calls_at(s, to), calls),
         _ => 0,
     }
 }

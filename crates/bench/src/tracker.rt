@@ -1,8 +1,8 @@
 // The rows of the tracker. The log line of a call is stored into a ring, as the published log does.
 ghost use Prim.Native.Nat.{_<_};
 use crate::fold;
-use crate::held;
-use crate::held::Calls;
+use crate::rounds;
+use crate::rounds::Calls;
 use gesture::Answer;
 use gesture::Keys;
 use gesture::Line;
@@ -57,7 +57,7 @@ fn after(k: usize, n: usize) -> usize {
     if next < n { next } else { 0 }
 }
 
-fn made(t: Tracker, ev: Event, now: u64) -> Answer {
+fn reported(t: Tracker, ev: Event, now: u64) -> Answer {
     gesture::event(t, ev, now)
 }
 
@@ -73,9 +73,9 @@ pub(crate) fn reports(c: Calls, calls: u64) -> u64 {
     let mut i = 0u64;
     while i < calls {
         i += 1;
-        let j = held::slot(k);
+        let j = rounds::slot(k);
         let ev = events[j];
-        let a = made(t, ev, times[j]);
+        let a = reported(t, ev, times[j]);
         k = after(k, c.n);
         t = a.tracker;
         let g = a.gesture;
@@ -117,7 +117,7 @@ pub(crate) fn ticks(c: Calls, calls: u64) -> u64 {
     let mut i = 0u64;
     while i < calls {
         i += 1;
-        let j = held::slot(k);
+        let j = rounds::slot(k);
         let a = gesture::tick(t, times[j]);
         k = after(k, c.n);
         t = a.tracker;

@@ -33,14 +33,14 @@ mul-ev c = search needs
 array-copy-out-ev : tie.Need-array-copy-out-ev Inv-loop μ-loop
 array-copy-out-ev c = search needs
 
-mul-made : tie.Need-mul-made Inv-loop μ-loop
-mul-made c = search needs
+mul-reported : tie.Need-mul-reported Inv-loop μ-loop
+mul-reported c = search needs
 
-array-read-made : tie.Need-array-read-made Inv-loop μ-loop
-array-read-made c = search needs
+array-read-reported : tie.Need-array-read-reported Inv-loop μ-loop
+array-read-reported c = search needs
 
-made-requires : tie.Need-made-requires Inv-loop μ-loop
-made-requires c κs = search needs
+reported-requires : tie.Need-reported-requires Inv-loop μ-loop
+reported-requires c κs = search needs
 
 after-requires : tie.Need-after-requires Inv-loop μ-loop
 after-requires c κs = search needs
@@ -100,9 +100,9 @@ reports-spec =
     slot-requires
     mul-ev
     array-copy-out-ev
-    mul-made
-    array-read-made
-    made-requires
+    mul-reported
+    array-read-reported
+    reported-requires
     after-requires
     given-requires
     with-requires

@@ -1,10 +1,10 @@
--- `bench::held::calls_at` is safe and ends. Assumes nothing.
+-- `bench::rounds::calls_at` is safe and ends. Assumes nothing.
 use Prim.Native.Nat.{_-_}
 use mathlib.Core.Path.{_≡_}
 use borrow.Author.Needs.{needs}
 use lib.ListN.{length}
-use Rattle.bench.proofs.held.calls_at.Statement.{statement}
-use Rattle.bench.proofs.held.calls_at.Tie as tie
+use Rattle.bench.proofs.rounds.calls_at.Statement.{statement}
+use Rattle.bench.proofs.rounds.calls_at.Tie as tie
 
 abbrev Inv-loop : tie.InvT-loop
 Inv-loop s events₀ times₀ at₀ n₀ events times at n = (length events ≡ 16) × (length times ≡ 16)
