@@ -28,7 +28,7 @@ use Rattle.gesture.specs.declared.record.MultiEnd.{MultiEnd}
 use Rattle.gesture.specs.declared.record.MultiEnd.the-variants.{Never, At}
 use Rattle.gesture.specs.declared.record.Tracker.{Tracker}
 use Rattle.image.specs.Image.{touchNumber, startOf, sinceOf, multiOf, pairingOf, pairNumber, pairOf, endNumber, endTime, lockNumber, zeroMulti, zeroPair, pointRows, downRows, multiRows, pairRows, pairingRows, touchRows, fingerRows, oneRows, takenRows, endRows, keyRows, settingRows, table, imageOf}
-use Rattle.image.specs.Rows.{row, total}
+use Rattle.image.specs.Rows.{row, total, Fits}
 use Rattle.image.specs.code.Numbers.{pointAt, flagFrom}
 use Rattle.image.specs.code.Touches.{at-touch, axisFrom, pairingFrom, touchFrom, multiAt, pairAt, touchAt}
 use Rattle.image.specs.code.Finger.{at-last, lockFrom, oneAt, appAt}
@@ -39,7 +39,7 @@ use Rattle.image.specs.code.Whole.{trackerAt}
 use Rattle.image.specs.Typed.{Byte, Time, Bytes, TypedPoint, TypedMulti, TypedPair, TypedPairing, TypedTouch, TypedOne, TypedEnd, Typed}
 use Rattle.image.proofs.Flags.{bit-fits, bit-back}
 use Rattle.image.proofs.SettingLaws.{settings-fit, settings-same, settings-typed}
-use Rattle.image.proofs.Layouts.{Fits, fits-join, numbersAt, numbersIn, part-back, number-fits}
+use Rattle.image.proofs.Layouts.{fits-join, numbersAt, numbersIn, part-back, number-fits}
 
 -- Each number of a part fits its row.
 

@@ -8,7 +8,7 @@ use native.Mathlib.Omega.{arith}
 use lib.Dec.{lit<}
 use lib.ListN.{length, getD, take, drop, length-append}
 use lib.Seq.{length-take-le, sets, length-sets, sets-eq, take-at, take-length, getD-at, drop-cons, drop-length}
-use Rattle.image.specs.Rows.{Row, row, bytesOf, laid, total}
+use Rattle.image.specs.Rows.{Row, row, bytesOf, laid, total, Fits}
 use Rattle.image.specs.code.Numbers.{numberAt}
 use Rattle.image.specs.code.Puts.{puts}
 
@@ -66,11 +66,6 @@ numbersAt (r ∷ rows) area at = numberAt area at (r .width) ∷ numbersAt rows 
 unfoldable pub numbersIn : List Row → List ℕ
 numbersIn [] = []
 numbersIn (r ∷ rows) = r .number ∷ numbersIn rows
-
--- each number fits its width
-abbrev pub Fits : List Row → Type 0
-Fits [] = Unit {0}
-Fits (r ∷ rows) = (r .number < 256 ^ r .width) × Fits rows
 
 pub fits-join : (xs ys : List Row) → Fits xs → Fits ys → Fits (xs ++ ys)
 fits-join [] ys f g = g

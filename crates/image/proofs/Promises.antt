@@ -1,6 +1,6 @@
 -- What the byte image promises: one image to a tracker, both ways; which areas are refused; that a refused call leaves
 -- every byte; and that each contract leaves one answer. Assumes nothing.
-use Prim.Native.Nat.{ℕ}
+use Prim.Native.Nat.{ℕ, _-_}
 use mathlib.Core.Path.{_≡_, refl, sym, _∙_, ap}
 use mathlib.Core.Bool.{Bool, true, false, true≢false}
 use mathlib.Core.List.{List, [], _∷_, _++_}
@@ -163,6 +163,6 @@ pub fresh-image : imageOf freshTracker ≡ replicate at-end 0
 unfolding bytesOf laid touchNumber startOf sinceOf multiOf pairingOf pairNumber pairOf endNumber endTime lockNumber pointRows downRows multiRows pairRows pairingRows touchRows fingerRows oneRows takenRows endRows keyRows settingRows table imageOf trackers.freshTracker trackers.whole fields.reset fields.untaken settings.unset tests.bit axes.axisNumber
 fresh-image = refl
 
-pub down-image : imageOf (touched freshTracker (Down (record { x = 300; y = 50 }) 1000) (freshTracker .one) (freshTracker .app) Never) ≡ (1 ∷ 44 ∷ 1 ∷ 50 ∷ 0 ∷ 232 ∷ 3 ∷ []) ++ replicate 76 0
+pub down-image : imageOf (touched freshTracker (Down (record { x = 300; y = 50 }) 1000) (freshTracker .one) (freshTracker .app) Never) ≡ (1 ∷ 44 ∷ 1 ∷ 50 ∷ 0 ∷ 232 ∷ 3 ∷ []) ++ replicate (at-end - 7) 0
 unfolding bytesOf laid touchNumber startOf sinceOf multiOf pairingOf pairNumber pairOf endNumber endTime lockNumber pointRows downRows multiRows pairRows pairingRows touchRows fingerRows oneRows takenRows endRows keyRows settingRows table imageOf trackers.touched trackers.freshTracker trackers.whole fields.reset fields.untaken settings.unset tests.bit axes.axisNumber
 down-image = refl

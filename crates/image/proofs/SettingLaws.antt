@@ -9,14 +9,14 @@ use lib.Seq.{sets}
 use Rattle.panel.specs.Tests.{bit}
 use Rattle.fingers.specs.declared.settings.Settings.{Settings}
 use Rattle.gesture.specs.declared.record.Tracker.{Tracker}
-use Rattle.image.specs.Rows.{row, bytesOf, laid}
+use Rattle.image.specs.Rows.{row, bytesOf, laid, Fits}
 use Rattle.image.specs.Image.{pointRows, downRows, multiRows, pairRows, pairingRows, touchRows, fingerRows, oneRows, takenRows, endRows, keyRows, settingRows, table, imageOf}
 use Rattle.image.specs.Typed.{Bytes, TypedSettings}
 use Rattle.image.specs.code.Numbers.{numberAt, flagFrom, isFlag}
 use Rattle.image.specs.code.Puts.{puts}
 use Rattle.image.specs.code.Settings.{at-grab, at-raw-next, settingsAt, SettingsRead, settingsChecked}
 use Rattle.image.proofs.Flags.{both, bit-fits, bit-back, flag-passes, flag-stands}
-use Rattle.image.proofs.Layouts.{Fits, numbersAt, numbersIn, number-fits, read, widthsOf}
+use Rattle.image.proofs.Layouts.{numbersAt, numbersIn, number-fits, read, widthsOf}
 
 pub settings-put : (s : Settings) (a0 a1 a2 : List ℕ)
     → a1 ≡ sets a0 at-grab (bytesOf 2 (s .«grab_ms»))
@@ -30,8 +30,7 @@ unfolding settingsAt
 settings-are area s h = λ i. record { «grab_ms» = h .0 i; «raw_next» = h .1 i }
 
 pub settings-fit : (s : Settings) → TypedSettings s → Fits (settingRows s)
-unfolding settingRows
-settings-fit s h = (h, (bit-fits (s .«raw_next»), tt))
+settings-fit s h = h
 
 pub settings-same : (s : Settings) (area : List ℕ) → numbersAt (settingRows s) area at-grab ≡ numbersIn (settingRows s) → settingsAt area ≡ s
 unfolding settingsAt settingRows numbersAt numbersIn
@@ -41,8 +40,8 @@ settings-same s area e =
     λ i. record { «grab_ms» = grab i; «raw_next» = (ap flagFrom raw ∙ bit-back _) i }
 
 pub settings-typed : (area : List ℕ) → Bytes area → TypedSettings (settingsAt area)
-unfolding settingsAt
-settings-typed area bytes = number-fits area bytes _ 2
+unfolding settingsAt settingRows
+settings-typed area bytes = (number-fits area bytes _ 2, (bit-fits _, tt))
 
 pub settings-pass : (t : Tracker) → settingsChecked (imageOf t) ≡ true
 unfolding settingsChecked isFlag numberAt laid bytesOf imageOf table touchRows downRows multiRows pairingRows pairRows pointRows fingerRows oneRows takenRows endRows keyRows settingRows

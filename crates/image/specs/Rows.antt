@@ -2,7 +2,7 @@
 --
 -- A row is a width and the number that stands there, low byte first; a table is laid out row after row, with nothing
 -- between.
-use Prim.Native.Nat.{ℕ, zero, suc, _+_, _%_, _/_}
+use Prim.Native.Nat.{ℕ, zero, suc, _+_, _%_, _/_, _^_, _<_}
 use mathlib.Core.List.{List, [], _∷_, _++_}
 
 pub record Row : Type 0 where
@@ -25,3 +25,8 @@ laid (r ∷ rows) = bytesOf (r .width) (r .number) ++ laid rows
 unfoldable pub total : List Row → ℕ
 total [] = 0
 total (r ∷ rows) = r .width + total rows
+
+-- each number fits its width
+abbrev pub Fits : List Row → Type 0
+Fits [] = Unit {0}
+Fits (r ∷ rows) = (r .number < 256 ^ r .width) × Fits rows

@@ -11,6 +11,8 @@ use Rattle.fingers.specs.declared.several.Multi.{Multi}
 use Rattle.fingers.specs.declared.pair.Pair.{Pair}
 use Rattle.fingers.specs.declared.pair.Pairing.{Pairing}
 use Rattle.fingers.specs.declared.pair.Pairing.the-variants.{Unpaired, Paired}
+use Rattle.image.specs.Rows.{Fits}
+use Rattle.image.specs.Image.{settingRows}
 use Rattle.gesture.specs.declared.record.Touch.{Touch}
 use Rattle.gesture.specs.declared.record.Touch.the-variants as touch
 use Rattle.gesture.specs.declared.record.MultiEnd.{MultiEnd}
@@ -58,8 +60,9 @@ TypedEnd (At end) = Time end
 abbrev pub TypedKeys : Keys → Type 0
 TypedKeys keys = Byte (keys .told) × Byte (keys .wanted)
 
+-- each as wide as its row
 abbrev pub TypedSettings : Settings → Type 0
-TypedSettings settings = Half (settings .«grab_ms»)
+TypedSettings settings = Fits (settingRows settings)
 
 pub record Typed (t : Tracker) : Type 0 where
   pub touching : TypedTouch (t .touch)
