@@ -11,18 +11,18 @@ use panel::Point;
 // What the one finger of a touch did. It outlives the touch: what a capture and the log look at is the last one-finger
 // touch, which several fingers may have followed.
 pub struct One {
+    pub last: Point,
     pub long_sent: bool,
-    // Drag axis, once it is found: looked for from the first report that may drag, wherever the finger then is.
-    pub axis: AxisLock,
     // Farthest distance from the touch-down of the reports that were read, pixels.
     pub far: u16,
-    pub last: Point,
-    pub moved: bool,
     // Hold-to-grab: a report was past GRAB_SLOP before the grab, so that no Grab comes. It drags all the same once the
     // hold is off: captured direct, or the grab time set to 0.
     pub early: bool,
     // Hold-to-grab: Grab was told, drags are allowed.
     pub grabbed: bool,
+    pub moved: bool,
+    // Drag axis, once it is found: looked for from the first report that may drag, wherever the finger then is.
+    pub axis: AxisLock,
 }
 
 // What the app made of the touch. It outlives the touch too.

@@ -4,10 +4,10 @@ ghost use Rattle.fingers.specs.Settings as settings;
 ghost use Rattle.fingers.specs.Settings.{setRaw, setGrab};
 
 pub struct Settings {
-    // Hold-to-grab time, 0 for direct drags.
-    pub grab_ms: u16,
     // A capture that takes the touch makes it a raw-move touch. Every capture uses the wish up.
     pub raw_next: bool,
+    // Hold-to-grab time, 0 for direct drags.
+    pub grab_ms: u16,
 }
 
 pub fn unset() -> Settings

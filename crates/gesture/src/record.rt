@@ -29,13 +29,13 @@ pub enum MultiEnd {
     At(u64),
 }
 
-// Of the orders tried, the one in which the calls take the fewest instructions, as also in One (docs/BENCH.md).
+// The order of the fields, here and in their parts, is for speed: docs/BENCH.md.
 pub struct Tracker {
-    pub app: App,
-    pub multi_end: MultiEnd,
-    pub keys: Keys,
     pub settings: Settings,
     pub touch: Touch,
+    pub multi_end: MultiEnd,
+    pub keys: Keys,
+    pub app: App,
     pub one: One,
 }
 
