@@ -44,7 +44,10 @@ array-share-prefix-out : tie.Need-array-share-prefix-out
 array-share-prefix-out c = lent _ _ _ _ _ (c .before .played .given .1) (c .before .before .before .before .play .ensures) .0
 
 slice-aggregate-write-all-2 : tie.Need-slice-aggregate-write-all-2
-slice-aggregate-write-all-2 c = lent _ _ _ _ _ (c .before .before .played .given .1) (c .before .before .before .before .before .play .ensures) .1
+slice-aggregate-write-all-2 c =
+    let played = c .before .before in
+    let play = played .before .before .before in
+    lent _ _ _ _ _ (played .played .given .1) (play .play .ensures) .1
 
 write-all-requires-2 : tie.Need-write-all-requires-2
 write-all-requires-2 c κs = search needs

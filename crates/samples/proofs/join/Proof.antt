@@ -27,7 +27,10 @@ same-length : tie.Need-same-length
 same-length c = search needs
 
 returns-3 : tie.Need-returns-3
-returns-3 c = counts _ _ (omega (arith, c .before .before .before .before .before .before .copy .kept .1 .0, c .before .before .copy2 .kept .1 .0))
+returns-3 c =
+    let copy-2 = c .before .before in
+    let copy = copy-2 .before .before .before .before in
+    counts _ _ (omega (arith, copy .copy .kept .1 .0, copy-2 .copy2 .kept .1 .0))
 
 pub join-spec : {M : Type 1} → statement M
 join-spec =

@@ -20,7 +20,10 @@ array-share-prefix-out : tie.Need-array-share-prefix-out
 array-share-prefix-out c = lent _ _ _ _ _ (c .before .played .given .1) (c .before .before .before .before .play .ensures) .0
 
 slice-aggregate-holds : tie.Need-slice-aggregate-holds
-slice-aggregate-holds c = lent _ _ _ _ _ (c .before .before .played .given .1) (c .before .before .before .before .before .play .ensures) .1
+slice-aggregate-holds c =
+    let played = c .before .before in
+    let play = played .before .before .before in
+    lent _ _ _ _ _ (played .played .given .1) (play .play .ensures) .1
 
 holds-requires : tie.Need-holds-requires
 holds-requires c κs = search needs

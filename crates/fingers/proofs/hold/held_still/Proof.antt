@@ -29,11 +29,21 @@ with-long-requires c κs = search needs
 
 returns-2 : tie.Need-returns-2
 unfolding heldStill
-returns-2 c = search (follow, ← c .with-long .ensures, ← c .before .before .long-due .ensures, ← c .before .before .before .before .grab-due .ensures, ← c .before .before .before .before .before .hold-of .ensures, ← c .before .before .before .before .before .before .elapsed .ensures)
+returns-2 c =
+    let long-due = c .before .before in
+    let grab-due = long-due .before .before in
+    let hold-of = grab-due .before in
+    let elapsed = hold-of .before in
+    search (follow, ← c .with-long .ensures, ← long-due .long-due .ensures, ← grab-due .grab-due .ensures, ← hold-of .hold-of .ensures, ← elapsed .elapsed .ensures)
 
 returns-3 : tie.Need-returns-3
 unfolding heldStill
-returns-3 c = search (follow, ← c .before .long-due .ensures, ← c .before .before .before .grab-due .ensures, ← c .before .before .before .before .hold-of .ensures, ← c .before .before .before .before .before .elapsed .ensures)
+returns-3 c =
+    let long-due = c .before in
+    let grab-due = long-due .before .before in
+    let hold-of = grab-due .before in
+    let elapsed = hold-of .before in
+    search (follow, ← long-due .long-due .ensures, ← grab-due .grab-due .ensures, ← hold-of .hold-of .ensures, ← elapsed .elapsed .ensures)
 
 pub held-still-spec : {M : Type 1} → statement M
 held-still-spec =

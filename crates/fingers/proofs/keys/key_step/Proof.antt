@@ -34,7 +34,11 @@ flip-requires-2 c κs = search needs
 
 returns-3 : tie.Need-returns-3
 unfolding keyStep
-returns-3 c = search (follow, ← c .flip2 .ensures, ← c .before .lowest-of2 .ensures .0, ← c .before .before .before .clear2 .ensures, ← c .before .before .before .before .before .clear .ensures)
+returns-3 c =
+    let lowest-of = c .before in
+    let clear-2 = lowest-of .before .before in
+    let clear = clear-2 .before .before in
+    search (follow, ← c .flip2 .ensures, ← lowest-of .lowest-of2 .ensures .0, ← clear-2 .clear2 .ensures, ← clear .clear .ensures)
 
 returns-4 : tie.Need-returns-4
 unfolding keyStep

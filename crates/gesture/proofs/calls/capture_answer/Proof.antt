@@ -19,7 +19,11 @@ answered-requires c κs = search needs
 
 returns : tie.Need-returns
 unfolding captured
-returns c = search (follow, ← c .answered .ensures, ← c .before .with-taken .ensures, ← c .before .before .capture-line .ensures, ← c .before .before .before .before .before .before .before .is-takeable .ensures)
+returns c =
+    let with-taken = c .before in
+    let capture-line = with-taken .before in
+    let is-takeable = capture-line .before .before .before .before .before in
+    search (follow, ← c .answered .ensures, ← with-taken .with-taken .ensures, ← capture-line .capture-line .ensures, ← is-takeable .is-takeable .ensures)
 
 with-wish-requires : tie.Need-with-wish-requires
 with-wish-requires c κs = search needs

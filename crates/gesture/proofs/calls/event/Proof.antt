@@ -22,7 +22,12 @@ report-answer-requires c κs = search needs
 
 returns : tie.Need-returns
 unfolding eventOf
-returns c = search (follow, ← c .report-answer .ensures, ← c .before .report-step .ensures, ← c .before .before .is-locked .ensures, ← c .before .before .before .before .before .points-ok .ensures, ← c .before .before .before .before .before .before .before .state-ok .ensures)
+returns c =
+    let report-step = c .before in
+    let is-locked = report-step .before in
+    let points-ok = is-locked .before .before .before in
+    let state-ok = points-ok .before .before in
+    search (follow, ← c .report-answer .ensures, ← report-step .report-step .ensures, ← is-locked .is-locked .ensures, ← points-ok .points-ok .ensures, ← state-ok .state-ok .ensures)
 
 refused-requires : tie.Need-refused-requires
 refused-requires c κs = search needs

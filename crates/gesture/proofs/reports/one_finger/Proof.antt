@@ -46,7 +46,10 @@ returns-3 c = search (follow, ← c .quiet2 .ensures, c .before .enum-told3 .giv
 
 returns-4 : tie.Need-returns-4
 unfolding oneFinger
-returns-4 c = search (follow, ← c .goes-on .ensures, ← c .before .later-report .ensures, c .before .before .before .before .before .before .touch .given .1)
+returns-4 c =
+    let later-report = c .before in
+    let touch = later-report .before .before .before .before .before in
+    search (follow, ← c .goes-on .ensures, ← later-report .later-report .ensures, touch .touch .given .1)
 
 pub one-finger-spec : {M : Type 1} → statement M
 one-finger-spec =

@@ -46,7 +46,10 @@ returns-3 c = search (follow, ← c .quiet3 .ensures, c .before .enum-told3 .giv
 
 returns-4 : tie.Need-returns-4
 unfolding stillDown
-returns-4 c = search (follow, ← c .goes-on .ensures, ← c .before .held-still .ensures, c .before .before .before .before .before .before .touch .given .1)
+returns-4 c =
+    let held-still = c .before in
+    let touch = held-still .before .before .before .before .before in
+    search (follow, ← c .goes-on .ensures, ← held-still .held-still .ensures, touch .touch .given .1)
 
 pub still-down-spec : {M : Type 1} → statement M
 still-down-spec =

@@ -26,7 +26,13 @@ same-length c = search needs
 
 returns : tie.Need-returns
 unfolding ascii
-returns c = (drag-words (c .before .before .before .before .before .before .before .before .before .before .before .before .before .before .before .before .before .before .args .start) (c .before .before .before .before .before .before .before .before .before .before .before .before .before .before .before .before .before .before .args .p) (c .before .before .before .before .before .before .before .before .before .before .before .before .before .before .before .before .before .before .args .axis) (c .before .before .before .before .before .before .before .before .before .before .before .before .before .before .word .ensures .0) (c .before .before .before .before .before .before .before .before .before .before .place .ensures .0) (c .before .before .before .before .before .before .place2 .ensures .0) (c .before .before .axis .ensures .0), omega (arith, c .before .before .before .before .before .before .before .before .before .before .before .before .before .before .word .ensures .1, c .before .before .before .before .before .before .before .before .before .before .place .ensures .1, c .before .before .before .before .before .before .place2 .ensures .1, c .before .before .axis .ensures .1))
+returns c =
+    let axis = c .before .before in
+    let place-2 = axis .before .before .before .before in
+    let place = place-2 .before .before .before .before in
+    let word = place .before .before .before .before in
+    let entry = word .before .before .before .before in
+    (drag-words (entry .args .start) (entry .args .p) (entry .args .axis) (word .word .ensures .0) (place .place .ensures .0) (place-2 .place2 .ensures .0) (axis .axis .ensures .0), omega (arith, word .word .ensures .1, place .place .ensures .1, place-2 .place2 .ensures .1, axis .axis .ensures .1))
 
 pub drag-spec : {M : Type 1} → statement M
 drag-spec =

@@ -171,119 +171,188 @@ same-length c = search needs
 
 returns : tie.Need-returns
 unfolding wordsOf ascii
-returns c = gave (c .before .before .before .before .before .before .before .before .before .args .g) _ (c .before .before .before .before .before .before .g .given .1) (c .before .before .with-point .ensures)
+returns c =
+    let with-point = c .before .before in
+    let arm = with-point .before .before .before .before in
+    let entry = arm .before .before .before in
+    gave (entry .args .g) _ (arm .g .given .1) (with-point .with-point .ensures)
 
 same-length-2 : tie.Need-same-length-2
 same-length-2 c = search needs
 
 returns-2 : tie.Need-returns-2
 unfolding wordsOf ascii
-returns-2 c = gave (c .before .before .before .before .before .before .before .before .before .args .g) _ (c .before .before .before .before .before .before .g2 .given .1) (c .before .before .with-point2 .ensures)
+returns-2 c =
+    let with-point = c .before .before in
+    let arm = with-point .before .before .before .before in
+    let entry = arm .before .before .before in
+    gave (entry .args .g) _ (arm .g2 .given .1) (with-point .with-point2 .ensures)
 
 same-length-3 : tie.Need-same-length-3
 same-length-3 c = search needs
 
 returns-3 : tie.Need-returns-3
 unfolding wordsOf ascii
-returns-3 c = gave (c .before .before .before .before .before .before .before .before .before .args .g) _ (c .before .before .before .before .before .before .g3 .given .1) (c .before .before .with-point3 .ensures)
+returns-3 c =
+    let with-point = c .before .before in
+    let arm = with-point .before .before .before .before in
+    let entry = arm .before .before .before in
+    gave (entry .args .g) _ (arm .g3 .given .1) (with-point .with-point3 .ensures)
 
 same-length-4 : tie.Need-same-length-4
 same-length-4 c = search needs
 
 returns-4 : tie.Need-returns-4
 unfolding wordsOf ascii
-returns-4 c = gave (c .before .before .before .before .before .before .before .before .args .g) _ (c .before .before .before .before .before .g4 .given .1) (c .before .before .drag .ensures)
+returns-4 c =
+    let drag = c .before .before in
+    let arm = drag .before .before .before in
+    let entry = arm .before .before .before in
+    gave (entry .args .g) _ (arm .g4 .given .1) (drag .drag .ensures)
 
 same-length-5 : tie.Need-same-length-5
 same-length-5 c = search needs
 
 returns-5 : tie.Need-returns-5
 unfolding wordsOf ascii
-returns-5 c = gave (c .before .before .before .before .before .before .before .before .before .args .g) _ (c .before .before .before .before .before .before .g5 .given .1) (c .before .before .with-point4 .ensures)
+returns-5 c =
+    let with-point = c .before .before in
+    let arm = with-point .before .before .before .before in
+    let entry = arm .before .before .before in
+    gave (entry .args .g) _ (arm .g5 .given .1) (with-point .with-point4 .ensures)
 
 same-length-6 : tie.Need-same-length-6
 same-length-6 c = search needs
 
 returns-6 : tie.Need-returns-6
 unfolding wordsOf ascii
-returns-6 c = gave (c .before .before .before .before .before .before .before .before .before .args .g) _ (c .before .before .before .before .before .before .g6 .given .1) (c .before .before .with-point5 .ensures)
+returns-6 c =
+    let with-point = c .before .before in
+    let arm = with-point .before .before .before .before in
+    let entry = arm .before .before .before in
+    gave (entry .args .g) _ (arm .g6 .given .1) (with-point .with-point5 .ensures)
 
 same-length-7 : tie.Need-same-length-7
 same-length-7 c = search needs
 
 returns-7 : tie.Need-returns-7
 unfolding wordsOf ascii
-returns-7 c = gave (c .before .before .before .before .before .before .before .before .args .g) _ (c .before .before .before .before .before .enum-told .given .1) (c .before .before .word .ensures .0, omega (arith, c .before .before .word .ensures .1))
+returns-7 c =
+    let word = c .before .before in
+    let arm = word .before .before .before in
+    let entry = arm .before .before .before in
+    gave (entry .args .g) _ (arm .enum-told .given .1) (word .word .ensures .0, omega (arith, word .word .ensures .1))
 
 same-length-8 : tie.Need-same-length-8
 same-length-8 c = search needs
 
 returns-8 : tie.Need-returns-8
 unfolding wordsOf ascii
-returns-8 c = gave (c .before .before .before .before .before .before .before .before .args .g) _ (c .before .before .before .before .before .enum-told2 .given .1) (c .before .before .word2 .ensures .0, omega (arith, c .before .before .word2 .ensures .1))
+returns-8 c =
+    let word = c .before .before in
+    let arm = word .before .before .before in
+    let entry = arm .before .before .before in
+    gave (entry .args .g) _ (arm .enum-told2 .given .1) (word .word2 .ensures .0, omega (arith, word .word2 .ensures .1))
 
 same-length-9 : tie.Need-same-length-9
 same-length-9 c = search needs
 
 returns-9 : tie.Need-returns-9
 unfolding wordsOf ascii
-returns-9 c = gave (c .before .before .before .before .before .before .before .before .args .g) _ (c .before .before .before .before .before .enum-told3 .given .1) (c .before .before .word3 .ensures .0, omega (arith, c .before .before .word3 .ensures .1))
+returns-9 c =
+    let word = c .before .before in
+    let arm = word .before .before .before in
+    let entry = arm .before .before .before in
+    gave (entry .args .g) _ (arm .enum-told3 .given .1) (word .word3 .ensures .0, omega (arith, word .word3 .ensures .1))
 
 same-length-10 : tie.Need-same-length-10
 same-length-10 c = search needs
 
 returns-10 : tie.Need-returns-10
 unfolding wordsOf ascii
-returns-10 c = gave (c .before .before .before .before .before .before .before .before .args .g) _ (c .before .before .before .before .before .enum-told4 .given .1) (c .before .before .word4 .ensures .0, omega (arith, c .before .before .word4 .ensures .1))
+returns-10 c =
+    let word = c .before .before in
+    let arm = word .before .before .before in
+    let entry = arm .before .before .before in
+    gave (entry .args .g) _ (arm .enum-told4 .given .1) (word .word4 .ensures .0, omega (arith, word .word4 .ensures .1))
 
 same-length-11 : tie.Need-same-length-11
 same-length-11 c = search needs
 
 returns-11 : tie.Need-returns-11
 unfolding wordsOf ascii
-returns-11 c = gave (c .before .before .before .before .before .before .before .before .args .g) _ (c .before .before .before .before .before .enum-told5 .given .1) (c .before .before .word5 .ensures .0, omega (arith, c .before .before .word5 .ensures .1))
+returns-11 c =
+    let word = c .before .before in
+    let arm = word .before .before .before in
+    let entry = arm .before .before .before in
+    gave (entry .args .g) _ (arm .enum-told5 .given .1) (word .word5 .ensures .0, omega (arith, word .word5 .ensures .1))
 
 same-length-12 : tie.Need-same-length-12
 same-length-12 c = search needs
 
 returns-12 : tie.Need-returns-12
 unfolding wordsOf ascii
-returns-12 c = gave (c .before .before .before .before .before .before .before .before .before .args .g) _ (c .before .before .before .before .before .before .g7 .given .1) (c .before .before .with-number .ensures)
+returns-12 c =
+    let with-number = c .before .before in
+    let arm = with-number .before .before .before .before in
+    let entry = arm .before .before .before in
+    gave (entry .args .g) _ (arm .g7 .given .1) (with-number .with-number .ensures)
 
 same-length-13 : tie.Need-same-length-13
 same-length-13 c = search needs
 
 returns-13 : tie.Need-returns-13
 unfolding wordsOf ascii
-returns-13 c = gave (c .before .before .before .before .before .before .before .before .before .args .g) _ (c .before .before .before .before .before .before .g8 .given .1) (c .before .before .with-number2 .ensures)
+returns-13 c =
+    let with-number = c .before .before in
+    let arm = with-number .before .before .before .before in
+    let entry = arm .before .before .before in
+    gave (entry .args .g) _ (arm .g8 .given .1) (with-number .with-number2 .ensures)
 
 same-length-14 : tie.Need-same-length-14
 same-length-14 c = search needs
 
 returns-14 : tie.Need-returns-14
 unfolding wordsOf ascii
-returns-14 c = gave (c .before .before .before .before .before .before .before .before .before .args .g) _ (c .before .before .before .before .before .before .g9 .given .1) (c .before .before .with-number3 .ensures)
+returns-14 c =
+    let with-number = c .before .before in
+    let arm = with-number .before .before .before .before in
+    let entry = arm .before .before .before in
+    gave (entry .args .g) _ (arm .g9 .given .1) (with-number .with-number3 .ensures)
 
 same-length-15 : tie.Need-same-length-15
 same-length-15 c = search needs
 
 returns-15 : tie.Need-returns-15
 unfolding wordsOf ascii
-returns-15 c = gave (c .before .before .before .before .before .before .before .before .args .g) _ (c .before .before .before .before .before .g10 .given .1) (c .before .before .moved .ensures)
+returns-15 c =
+    let moved = c .before .before in
+    let arm = moved .before .before .before in
+    let entry = arm .before .before .before in
+    gave (entry .args .g) _ (arm .g10 .given .1) (moved .moved .ensures)
 
 same-length-16 : tie.Need-same-length-16
 same-length-16 c = search needs
 
 returns-16 : tie.Need-returns-16
 unfolding wordsOf ascii
-returns-16 c = gave (c .before .before .before .before .before .before .before .before .args .g) _ (c .before .before .before .before .before .g11 .given .1) (c .before .before .pinch .ensures)
+returns-16 c =
+    let pinch = c .before .before in
+    let arm = pinch .before .before .before in
+    let entry = arm .before .before .before in
+    gave (entry .args .g) _ (arm .g11 .given .1) (pinch .pinch .ensures)
 
 same-length-17 : tie.Need-same-length-17
 same-length-17 c = search needs
 
 returns-17 : tie.Need-returns-17
 unfolding wordsOf ascii
-returns-17 c = gave (c .before .before .before .before .before .before .before .before .before .before .args .g) _ (c .before .before .before .before .before .before .before .g12 .given .1) (pinch-end-words _ _ (c .before .before .before .bit .ensures) (c .before .before .with-number4 .ensures .0), c .before .before .with-number4 .ensures .1)
+returns-17 c =
+    let with-number = c .before .before in
+    let bit = with-number .before in
+    let arm = bit .before .before .before .before in
+    let entry = arm .before .before .before in
+    gave (entry .args .g) _ (arm .g12 .given .1) (pinch-end-words _ _ (bit .bit .ensures) (with-number .with-number4 .ensures .0), with-number .with-number4 .ensures .1)
 
 pub gesture-words-spec : {M : Type 1} → statement M
 gesture-words-spec =

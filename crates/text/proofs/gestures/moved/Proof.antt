@@ -23,7 +23,12 @@ same-length c = search needs
 
 returns : tie.Need-returns
 unfolding ascii
-returns c = (move-words (c .before .before .before .before .before .before .before .before .before .before .before .before .before .before .args .prev) (c .before .before .before .before .before .before .before .before .before .before .before .before .before .before .args .p) (c .before .before .before .before .before .before .before .before .before .before .word .ensures .0) (c .before .before .before .before .before .before .place .ensures .0) (c .before .before .place2 .ensures .0), omega (arith, c .before .before .before .before .before .before .before .before .before .before .word .ensures .1, c .before .before .before .before .before .before .place .ensures .1, c .before .before .place2 .ensures .1))
+returns c =
+    let place-2 = c .before .before in
+    let place = place-2 .before .before .before .before in
+    let word = place .before .before .before .before in
+    let entry = word .before .before .before .before in
+    (move-words (entry .args .prev) (entry .args .p) (word .word .ensures .0) (place .place .ensures .0) (place-2 .place2 .ensures .0), omega (arith, word .word .ensures .1, place .place .ensures .1, place-2 .place2 .ensures .1))
 
 pub moved-spec : {M : Type 1} → statement M
 moved-spec =

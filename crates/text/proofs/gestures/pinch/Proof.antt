@@ -26,7 +26,13 @@ same-length c = search needs
 
 returns : tie.Need-returns
 unfolding ascii
-returns c = (pinch-words (c .before .before .before .before .before .before .before .before .before .before .before .before .before .before .before .before .before .before .args .axis) (c .before .before .before .before .before .before .before .before .before .before .before .before .before .before .before .before .before .before .args .span0) (c .before .before .before .before .before .before .before .before .before .before .before .before .before .before .before .before .before .before .args .span) (c .before .before .before .before .before .before .before .before .before .before .before .before .before .before .word .ensures .0) (c .before .before .before .before .before .before .before .before .before .before .axis .ensures .0) (c .before .before .before .before .before .before .value .ensures .0) (c .before .before .value2 .ensures .0), omega (arith, c .before .before .before .before .before .before .before .before .before .before .before .before .before .before .word .ensures .1, c .before .before .before .before .before .before .before .before .before .before .axis .ensures .1, c .before .before .before .before .before .before .value .ensures .1 .0, c .before .before .value2 .ensures .1 .0))
+returns c =
+    let value-2 = c .before .before in
+    let value = value-2 .before .before .before .before in
+    let axis = value .before .before .before .before in
+    let word = axis .before .before .before .before in
+    let entry = word .before .before .before .before in
+    (pinch-words (entry .args .axis) (entry .args .span0) (entry .args .span) (word .word .ensures .0) (axis .axis .ensures .0) (value .value .ensures .0) (value-2 .value2 .ensures .0), omega (arith, word .word .ensures .1, axis .axis .ensures .1, value .value .ensures .1 .0, value-2 .value2 .ensures .1 .0))
 
 pub pinch-spec : {M : Type 1} → statement M
 pinch-spec =

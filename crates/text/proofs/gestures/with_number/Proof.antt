@@ -17,7 +17,11 @@ same-length : tie.Need-same-length
 same-length c = search needs
 
 returns : tie.Need-returns
-returns c = (words-then (c .before .before .before .before .before .before .before .before .before .before .args .name .now ∷ []) (decimal (c .before .before .before .before .before .before .before .before .before .before .args .v) ∷ []) (c .before .before .before .before .before .before .word .ensures .0) (c .before .before .value .ensures .0), omega (arith, c .before .before .before .before .before .before .word .ensures .1, c .before .before .value .ensures .1 .0))
+returns c =
+    let value = c .before .before in
+    let word = value .before .before .before .before in
+    let entry = word .before .before .before .before in
+    (words-then (entry .args .name .now ∷ []) (decimal (entry .args .v) ∷ []) (word .word .ensures .0) (value .value .ensures .0), omega (arith, word .word .ensures .1, value .value .ensures .1 .0))
 
 pub with-number-spec : {M : Type 1} → statement M
 with-number-spec = tie.close (tie.spec word-requires value-requires same-length returns)

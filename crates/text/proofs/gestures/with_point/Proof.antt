@@ -17,7 +17,11 @@ same-length : tie.Need-same-length
 same-length c = search needs
 
 returns : tie.Need-returns
-returns c = (words-then (c .before .before .before .before .before .before .before .before .before .before .args .name .now ∷ []) (decimal (c .before .before .before .before .before .before .before .before .before .before .args .p .x) ∷ decimal (c .before .before .before .before .before .before .before .before .before .before .args .p .y) ∷ []) (c .before .before .before .before .before .before .word .ensures .0) (c .before .before .place .ensures .0), omega (arith, c .before .before .before .before .before .before .word .ensures .1, c .before .before .place .ensures .1))
+returns c =
+    let place = c .before .before in
+    let word = place .before .before .before .before in
+    let entry = word .before .before .before .before in
+    (words-then (entry .args .name .now ∷ []) (decimal (entry .args .p .x) ∷ decimal (entry .args .p .y) ∷ []) (word .word .ensures .0) (place .place .ensures .0), omega (arith, word .word .ensures .1, place .place .ensures .1))
 
 pub with-point-spec : {M : Type 1} → statement M
 with-point-spec = tie.close (tie.spec word-requires place-requires same-length returns)

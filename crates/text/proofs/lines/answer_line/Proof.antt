@@ -11,7 +11,11 @@ same-length : tie.Need-same-length
 same-length c = search needs
 
 returns : tie.Need-returns
-returns c = answer-given (c .before .before .before .before .before .before .args .i) (c .before .before .before .before .before .before .args .refusal) (c .before .before .before .before .before .before .args .given) (c .before .before .before .before .if1 .taken) (c .before .before .given-line .ensures)
+returns c =
+    let given-line = c .before .before in
+    let if = given-line .before .before in
+    let entry = if .before .before in
+    answer-given (entry .args .i) (entry .args .refusal) (entry .args .given) (if .if1 .taken) (given-line .given-line .ensures)
 
 refused-line-requires : tie.Need-refused-line-requires
 refused-line-requires c κs = search needs
@@ -20,7 +24,11 @@ same-length-2 : tie.Need-same-length-2
 same-length-2 c = search needs
 
 returns-2 : tie.Need-returns-2
-returns-2 c = answer-refused (c .before .before .before .before .before .before .args .i) (c .before .before .before .before .before .before .args .refusal) (c .before .before .before .before .before .before .args .given) (c .before .before .before .before .if1 .left) (c .before .before .refused-line .ensures)
+returns-2 c =
+    let refused-line = c .before .before in
+    let if = refused-line .before .before in
+    let entry = if .before .before in
+    answer-refused (entry .args .i) (entry .args .refusal) (entry .args .given) (if .if1 .left) (refused-line .refused-line .ensures)
 
 pub answer-line-spec : {M : Type 1} → statement M
 answer-line-spec =

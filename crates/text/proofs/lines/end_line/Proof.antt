@@ -23,7 +23,12 @@ same-length c = search needs
 
 returns : tie.Need-returns
 unfolding ascii
-returns c = (end-of (c .before .before .before .before .before .before .before .before .before .before .before .before .before .before .args .count) (c .before .before .before .before .before .before .before .before .before .before .say .ensures) (c .before .before .before .before .before .before .value .ensures .0) (c .before .before .finish .ensures .0), omega (arith, c .before .before .before .before .before .before .before .before .before .before .say .ensures .ends, c .before .before .before .before .before .before .value .ensures .1 .0, c .before .before .finish .ensures .1))
+returns c =
+    let finish = c .before .before in
+    let value = finish .before .before .before .before in
+    let say = value .before .before .before .before in
+    let entry = say .before .before .before .before in
+    (end-of (entry .args .count) (say .say .ensures) (value .value .ensures .0) (finish .finish .ensures .0), omega (arith, say .say .ensures .ends, value .value .ensures .1 .0, finish .finish .ensures .1))
 
 pub end-line-spec : {M : Type 1} → statement M
 end-line-spec =

@@ -19,7 +19,12 @@ same-length : tie.Need-same-length
 same-length c = search needs
 
 returns : tie.Need-returns
-returns c = (line-of (wordsOf (c .before .before .before .before .before .before .before .before .before .before .before .before .before .args .g)) (c .before .before .before .before .before .before .before .before .before .before .number .ensures .0) (c .before .before .before .before .before .before .gesture-words .ensures .0) (c .before .before .finish .ensures .0), omega (arith, c .before .before .before .before .before .before .before .before .before .before .number .ensures .1 .0, c .before .before .before .before .before .before .gesture-words .ensures .1, c .before .before .finish .ensures .1))
+returns c =
+    let finish = c .before .before in
+    let gesture-words = finish .before .before .before .before in
+    let number = gesture-words .before .before .before .before in
+    let entry = number .before .before .before in
+    (line-of (wordsOf (entry .args .g)) (number .number .ensures .0) (gesture-words .gesture-words .ensures .0) (finish .finish .ensures .0), omega (arith, number .number .ensures .1 .0, gesture-words .gesture-words .ensures .1, finish .finish .ensures .1))
 
 pub gesture-line-spec : {M : Type 1} → statement M
 gesture-line-spec =

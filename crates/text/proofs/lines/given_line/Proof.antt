@@ -20,7 +20,11 @@ same-length : tie.Need-same-length
 same-length c = search needs
 
 returns-2 : tie.Need-returns-2
-returns-2 c = given-gave (c .before .before .before .before .before .before .before .before .args .i) (c .before .before .before .before .before .before .before .before .args .given) _ (c .before .before .before .before .before .given .given .1) (c .before .before .gesture-line .ensures)
+returns-2 c =
+    let gesture-line = c .before .before in
+    let given = gesture-line .before .before .before in
+    let entry = given .before .before .before in
+    given-gave (entry .args .i) (entry .args .given) _ (given .given .given .1) (gesture-line .gesture-line .ensures)
 
 pub given-line-spec : {M : Type 1} → statement M
 given-line-spec =

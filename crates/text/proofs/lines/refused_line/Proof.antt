@@ -26,7 +26,13 @@ same-length c = search needs
 
 returns : tie.Need-returns
 unfolding ascii
-returns c = (refused-of (c .before .before .before .before .before .before .before .before .before .before .before .before .before .before .before .before .before .before .args .i) (c .before .before .before .before .before .before .before .before .before .before .before .before .before .before .before .before .before .before .args .refusal) (c .before .before .before .before .before .before .before .before .before .before .before .before .before .before .before .number .ensures .0) (c .before .before .before .before .before .before .before .before .before .before .word .ensures .0) (c .before .before .before .before .before .before .value .ensures .0) (c .before .before .finish .ensures .0), omega (arith, c .before .before .before .before .before .before .before .before .before .before .before .before .before .before .before .number .ensures .1 .0, c .before .before .before .before .before .before .before .before .before .before .word .ensures .1, c .before .before .before .before .before .before .value .ensures .1 .0, c .before .before .finish .ensures .1))
+returns c =
+    let finish = c .before .before in
+    let value = finish .before .before .before .before in
+    let word = value .before .before .before .before in
+    let number = word .before .before .before .before .before in
+    let entry = number .before .before .before in
+    (refused-of (entry .args .i) (entry .args .refusal) (number .number .ensures .0) (word .word .ensures .0) (value .value .ensures .0) (finish .finish .ensures .0), omega (arith, number .number .ensures .1 .0, word .word .ensures .1, value .value .ensures .1 .0, finish .finish .ensures .1))
 
 pub refused-line-spec : {M : Type 1} → statement M
 refused-line-spec =

@@ -73,11 +73,21 @@ digits-slice-write-out-2 : (t : ℕ) → digits-lts.Need-slice-write-out-2 (
   digits-below t,
   digits.Post,
 ) (digits-at t) digits.Post
-digits-slice-write-out-2 t c = omega (arith, c .before .before .before .before .before .before .before .pre .1, more-length (c .before .before .before .before .before .before .before .args .left) (c .before .before .before .before .before .before .before .args .v) (c .before .before .before .before .before .if1 .left) (c .before .before .before .before .if2 .left), c .before .before .digits .ensures .ends, c .before .before .digits .kept .0)
+digits-slice-write-out-2 t c =
+    let digits = c .before .before in
+    let if-2 = digits .before .before in
+    let if = if-2 .before in
+    let entry = if .before .before in
+    omega (arith, entry .pre .1, more-length (entry .args .left) (entry .args .v) (if .if1 .left) (if-2 .if2 .left), digits .digits .ensures .ends, digits .digits .kept .0)
 
 digits-add-result-2 :
     (t : ℕ) → digits-lts.Need-add-result-2 (digits-below t, digits.Post) (digits-at t) digits.Post
-digits-add-result-2 t c = omega (arith, c .before .before .before .before .before .before .before .pre .1, more-length (c .before .before .before .before .before .before .before .args .left) (c .before .before .before .before .before .before .before .args .v) (c .before .before .before .before .before .if1 .left) (c .before .before .before .before .if2 .left), c .before .before .digits .ensures .ends)
+digits-add-result-2 t c =
+    let digits = c .before .before in
+    let if-2 = digits .before .before in
+    let if = if-2 .before in
+    let entry = if .before .before in
+    omega (arith, entry .pre .1, more-length (entry .args .left) (entry .args .v) (if .if1 .left) (if-2 .if2 .left), digits .digits .ensures .ends)
 
 digits-same-length-2 :
     (t : ℕ) →
@@ -86,7 +96,12 @@ digits-same-length-2 t c = simp length-set (c .before .before .digits .kept .0)
 
 digits-returns-3 :
     (t : ℕ) → digits-lts.Need-returns-3 (digits-below t, digits.Post) (digits-at t) digits.Post
-digits-returns-3 t c = written-more (c .before .before .before .before .before .before .before .args .out .now) (c .before .before .before .before .before .before .before .args .at) (c .before .before .before .before .before .before .before .args .left) (c .before .before .before .before .before .before .before .args .v) _ _ (c .before .before .before .before .before .if1 .left) (c .before .before .before .before .if2 .left) (c .before .before .digits .ensures)
+digits-returns-3 t c =
+    let digits = c .before .before in
+    let if-2 = digits .before .before in
+    let if = if-2 .before in
+    let entry = if .before .before in
+    written-more (entry .args .out .now) (entry .args .at) (entry .args .left) (entry .args .v) _ _ (if .if1 .left) (if-2 .if2 .left) (digits .digits .ensures)
 
 pub +digits-spec : {M : Type 1} → statement M
 +digits-spec =

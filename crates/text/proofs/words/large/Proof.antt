@@ -24,7 +24,10 @@ same-length c = c .before .before .digits .kept .0 ∙ simp length-set
 
 returns : tie.Need-returns
 unfolding decimal
-returns c = (word-after (c .before .before .before .before .before .args .out .now) (c .before .before .before .before .before .args .at) (decimal (c .before .before .before .before .before .args .v)) _ _ (c .before .before .digits .ensures), omega (arith, c .before .before .digits .ensures .ends, decimal-most (c .before .before .before .before .before .args .v)))
+returns c =
+    let digits = c .before .before in
+    let entry = digits .before .before .before in
+    (word-after (entry .args .out .now) (entry .args .at) (decimal (entry .args .v)) _ _ (digits .digits .ensures), omega (arith, digits .digits .ensures .ends, decimal-most (entry .args .v)))
 
 pub large-spec : {M : Type 1} → statement M
 large-spec = tie.close (tie.spec slice-write-out add-digits digits-requires same-length returns)

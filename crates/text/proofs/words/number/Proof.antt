@@ -162,7 +162,10 @@ same-length-5 c = search needs
 
 returns-5 : tie.Need-returns-5
 unfolding decimal
-returns-5 c = (c .before .before .digits .ensures, (omega (arith, c .before .before .digits .ensures .ends, decimal-small (c .before .before .before .before .before .before .before .before .before .args .v) (c .before .before .before .before .before .before .before .before .before .pre .0)), λ h. omega (arith, c .before .before .digits .ensures .ends, decimal-two (c .before .before .before .before .before .before .before .before .before .args .v) h)))
+returns-5 c =
+    let digits = c .before .before in
+    let entry = digits .before .before .before .before .before .before .before in
+    (digits .digits .ensures, (omega (arith, digits .digits .ensures .ends, decimal-small (entry .args .v) (entry .pre .0)), λ h. omega (arith, digits .digits .ensures .ends, decimal-two (entry .args .v) h)))
 
 pub number-spec : {M : Type 1} → statement M
 number-spec =

@@ -23,7 +23,11 @@ same-length : tie.Need-same-length
 same-length c = search needs
 
 returns : tie.Need-returns
-returns c = (words-then (decimal (c .before .before .before .before .before .before .before .before .before .before .before .args .p .x) ∷ []) (decimal (c .before .before .before .before .before .before .before .before .before .before .before .args .p .y) ∷ []) (c .before .before .before .before .before .before .before .value .ensures .0) (c .before .before .value2 .ensures .0), omega (arith, c .before .before .before .before .before .before .before .value .ensures .1 .0, c .before .before .value2 .ensures .1 .0))
+returns c =
+    let value-2 = c .before .before in
+    let value = value-2 .before .before .before .before .before in
+    let entry = value .before .before .before .before in
+    (words-then (decimal (entry .args .p .x) ∷ []) (decimal (entry .args .p .y) ∷ []) (value .value .ensures .0) (value-2 .value2 .ensures .0), omega (arith, value .value .ensures .1 .0, value-2 .value2 .ensures .1 .0))
 
 pub place-spec : {M : Type 1} → statement M
 place-spec =

@@ -21,7 +21,10 @@ same-length : tie.Need-same-length
 same-length c = c .before .before .number .kept .0 ∙ simp length-set
 
 returns : tie.Need-returns
-returns c = (word-after (c .before .before .before .before .before .args .out .now) (c .before .before .before .before .before .args .at) (decimal (c .before .before .before .before .before .args .v)) _ _ (c .before .before .number .ensures .0), (omega (arith, c .before .before .number .ensures .1 .0), λ h. omega (arith, c .before .before .number .ensures .1 .1 h)))
+returns c =
+    let number = c .before .before in
+    let entry = number .before .before .before in
+    (word-after (entry .args .out .now) (entry .args .at) (decimal (entry .args .v)) _ _ (number .number .ensures .0), (omega (arith, number .number .ensures .1 .0), λ h. omega (arith, number .number .ensures .1 .1 h)))
 
 pub value-spec : {M : Type 1} → statement M
 value-spec = tie.close (tie.spec slice-write-out add-number number-requires same-length returns)

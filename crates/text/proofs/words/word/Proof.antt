@@ -20,7 +20,10 @@ same-length : tie.Need-same-length
 same-length c = c .before .before .say .kept .0 ∙ simp length-set
 
 returns : tie.Need-returns
-returns c = (word-after (c .before .before .before .before .before .before .args .out .now) (c .before .before .before .before .before .before .args .at) (c .before .before .before .before .before .before .args .w .now) _ _ (c .before .before .say .ensures), omega (arith, c .before .before .say .ensures .ends))
+returns c =
+    let say = c .before .before in
+    let entry = say .before .before .before .before in
+    (word-after (entry .args .out .now) (entry .args .at) (entry .args .w .now) _ _ (say .say .ensures), omega (arith, say .say .ensures .ends))
 
 pub word-spec : {M : Type 1} → statement M
 word-spec = tie.close (tie.spec slice-write-out add-say say-requires same-length returns)
