@@ -44,9 +44,9 @@ unfolding settingsAt settingRows
 settings-typed area bytes = (number-fits area bytes _ 2, (bit-fits _, tt))
 
 pub settings-pass : (t : Tracker) → settingsChecked (imageOf t) ≡ true
-unfolding settingsChecked isFlag numberAt laid bytesOf imageOf table touchRows downRows multiRows pairingRows pairRows pointRows fingerRows oneRows takenRows endRows keyRows settingRows
+unfolding isFlag numberAt laid bytesOf imageOf table touchRows downRows multiRows pairingRows pairRows pointRows fingerRows oneRows takenRows endRows keyRows settingRows
 settings-pass t = flag-passes (t .settings .«raw_next»)
 
 pub setting-rows : (area : List ℕ) → settingsChecked area ≡ true → settingRows (settingsAt area) ≡ read area (widthsOf (settingRows (settingsAt area))) at-grab
-unfolding settingRows settingsAt settingsChecked widthsOf
+unfolding settingRows settingsAt widthsOf
 setting-rows area passes = λ i. row 2 (numberAt area at-grab 2) ∷ row 1 (flag-stands area at-raw-next passes i) ∷ []
