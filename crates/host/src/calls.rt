@@ -74,7 +74,7 @@ pub extern "C" fn touch_grab_ms(image: &[u8], out: &mut [u64; 1]) -> u32
     ensures { λ r. ⌜ grabTold r (now (out .exit)) ≡ grabHosted (now (image .entry)) ⌝ }
 {
     let g = image::grab_ms(image);
-    *out = [widths::wide64(g.ms)];
+    *out = [panel::wide16(g.ms)];
     widths::wide32(g.refusal)
 }
 

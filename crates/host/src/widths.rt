@@ -9,12 +9,6 @@ pub(crate) fn wide32(x: u8) -> u32
     x as u32
 }
 
-pub(crate) fn wide64(x: u16) -> u64
-    ensures { λ r. ⌜ r ≡ x ⌝ }
-{
-    x as u64
-}
-
 pub(crate) fn number_of(why: Refusal) -> u32
     ensures { λ r. ⌜ r ≡ numberOf why ⌝ }
 {

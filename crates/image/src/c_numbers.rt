@@ -6,6 +6,8 @@ use gesture::Gesture;
 use gesture::Given;
 use gesture::Log;
 use panel::Point;
+use panel::wide8;
+use panel::wide16;
 
 pub const ANSWER_NUMBERS: usize = 11;
 
@@ -25,18 +27,6 @@ struct LogNumbers {
     x: u64,
     y: u64,
     time: u64,
-}
-
-fn wide8(x: u8) -> u64
-    ensures { λ r. ⌜ r ≡ x ⌝ }
-{
-    x as u64
-}
-
-fn wide16(x: u16) -> u64
-    ensures { λ r. ⌜ r ≡ x ⌝ }
-{
-    x as u64
 }
 
 fn alone(code: u64) -> GestureNumbers

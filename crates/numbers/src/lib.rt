@@ -2,15 +2,12 @@
 // numbers. Reading refuses with the place that it speaks of; writing leaves the room as it was where it refuses.
 mod reading;
 mod sizes;
-mod widths;
 mod writing;
 
 pub use reading::Cursor;
 pub use reading::Value;
 pub use reading::next_number;
 pub use sizes::MOST_64;
-pub use widths::wide8;
-pub use widths::wide16;
 pub use writing::WriteAnswer;
 pub use writing::length_of;
 pub use writing::put_number;

@@ -9,8 +9,8 @@ use crate::sizes::GROUP;
 use crate::sizes::HIGH_BIT;
 use crate::sizes::MOST_GROUPS;
 use crate::sizes::REST_END;
-use crate::widths::wide8;
 use panel::Refusal;
+use panel::wide8;
 
 // Where reading stands, or why it stopped and the place that this speaks of. It is handed from read
 // to read, and once stopped it stays so: a record is then read straight through, and looked at once.

@@ -7,6 +7,7 @@ mod middle;
 mod points;
 mod refusals;
 mod truths;
+mod widths;
 
 pub use axes::Axis;
 pub use axes::AxisLock;
@@ -37,3 +38,5 @@ pub use points::on_panel;
 pub use refusals::Refusal;
 pub use refusals::number;
 pub use truths::bit;
+pub use widths::wide8;
+pub use widths::wide16;

@@ -24,11 +24,11 @@ use crate::sizes::VERSION;
 use gesture::Call;
 use gesture::CallKind;
 use numbers::WriteAnswer;
-use numbers::wide8;
-use numbers::wide16;
 use panel::Event;
 use panel::MAX_POINTS;
 use panel::Point;
+use panel::wide8;
+use panel::wide16;
 
 // The numbers of a record: the first n.
 struct Gathered {

@@ -11,7 +11,7 @@ use Rattle.numbers.proofs.reading.+groups.Lts-groups as groups-lts
 use Rattle.numbers.proofs.reading.+groups.Tie.{close}
 use Rattle.numbers.proofs.reading.groups.Kinds as groups-kinds
 use Rattle.numbers.proofs.reading.groups.Reads as groups
-use Rattle.numbers.proofs.widths.wide8.Reads as wide8-reads
+use Rattle.panel.proofs.wide8.Reads as wide8-reads
 use Rattle.numbers.proofs.reading.with_group.Reads as with-group-reads
 
 abbrev μ-groups : Measures 1 groups-kinds.ps ℕ
