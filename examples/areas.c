@@ -1,13 +1,14 @@
 /*
  * Areas that are no tracker's image, and reports off the panel, as a C host can hand them over. Which areas are images is
- * read here a second time, from the table of docs/IMAGE.md and document 01's rule of states, and the archive's
- * verdict is held to that reading: for the areas of the recorded run with each byte set to each other value and each
+ * read here a second time, from the table of docs/IMAGE.md (rows.h is made of it) and document 01's rule of states, and the
+ * archive's verdict is held to that reading: for the areas of the recorded run with each byte set to each other value and each
  * number to its bounds, for areas joined of two of them, and for wrong lengths. A refused call alters nothing and tells
  * zeros; an answered one leaves an image.
  *
  *     areas LINES     crates/probe/stdout (docs/PROBE.md)
  */
 #include "calls.h"
+#include "rows.h"
 
 /* The image, read a second time. */
 
@@ -15,51 +16,15 @@ enum part { ALWAYS, DOWN, MULTI, PAIR, MULTI_END };
 
 #define WIDTH 480
 #define HEIGHT 320
-#define ON_PANEL(at, part) {at, 2, 0, WIDTH - 1, part}, {at + 2, 2, 0, HEIGHT - 1, part}
 
 /* Each row of the table: where, how many bytes, the values it may have, and the part that it belongs to. */
 static const struct row {
     unsigned at, bytes;
     uint64_t least, most;
     enum part part;
-} table[] = {
-    {0, 1, 0, 3, ALWAYS},            /* which touch is on */
-    ON_PANEL(1, DOWN),               /* where the finger went down */
-    {5, 8, 0, UINT64_MAX, DOWN},     /* when */
-    {13, 1, 2, 5, MULTI},            /* most fingers */
-    ON_PANEL(14, MULTI),             /* first centroid */
-    {18, 8, 0, UINT64_MAX, MULTI},   /* its time */
-    ON_PANEL(26, MULTI),             /* last centroid */
-    {30, 8, 0, UINT64_MAX, MULTI},   /* its time */
-    {38, 1, 0, 1, MULTI},            /* has a pair */
-    ON_PANEL(39, PAIR),              /* one finger */
-    ON_PANEL(43, PAIR),              /* the other finger */
-    {47, 1, 0, 1, PAIR},             /* axis */
-    {48, 2, 0, WIDTH - 1, PAIR},     /* span at the start */
-    ON_PANEL(50, PAIR),              /* centroid at the start */
-    {54, 1, 0, 2, PAIR},             /* state */
-    ON_PANEL(55, ALWAYS),            /* last point */
-    {59, 1, 0, 1, ALWAYS},           /* moved */
-    {60, 2, 0, WIDTH - 1, ALWAYS},   /* far */
-    {62, 1, 0, 1, ALWAYS},           /* long press sent */
-    {63, 1, 0, 2, ALWAYS},           /* axis of the drag */
-    {64, 1, 0, 1, ALWAYS},           /* grabbed */
-    {65, 1, 0, 1, ALWAYS},           /* direct */
-    {66, 1, 0, 1, ALWAYS},           /* early */
-    {67, 1, 0, 1, ALWAYS},           /* captured */
-    {68, 1, 0, 1, ALWAYS},           /* raw */
-    {69, 1, 0, 1, ALWAYS},           /* a multi end is stored */
-    {70, 8, 0, UINT64_MAX, MULTI_END}, /* its time */
-    {78, 1, 0, 255, ALWAYS},         /* keys told */
-    {79, 1, 0, 255, ALWAYS},         /* keys wanted */
-    {80, 2, 0, 5000, ALWAYS},        /* grab time */
-    {82, 1, 0, 1, ALWAYS},           /* raw wish */
-};
+} table[] = {IMAGE_ROWS};
 
 enum { ROWS = sizeof table / sizeof table[0] };
-
-/* The places that the rules name. */
-enum { AT_TOUCH = 0, AT_PAIR = 38, AT_PAIR_STATE = 54, AT_CAPTURED = 67, AT_RAW = 68, AT_END = 69, AT_GRAB = 80 };
 
 static uint64_t number_at(const uint8_t *area, unsigned at, unsigned bytes)
 {
@@ -73,13 +38,13 @@ static int is_there(const uint8_t *area, enum part part)
 {
     switch (part) {
     case DOWN:
-        return area[AT_TOUCH] == 1;
+        return area[AT_touchNumber] == 1;
     case MULTI:
-        return area[AT_TOUCH] == 2;
+        return area[AT_touchNumber] == 2;
     case PAIR:
-        return area[AT_TOUCH] == 2 && area[AT_PAIR] == 1;
+        return area[AT_touchNumber] == 2 && area[AT_pairNumber] == 1;
     case MULTI_END:
-        return area[AT_END] == 1;
+        return area[AT_endNumber] == 1;
     default:
         return 1;
     }
@@ -93,7 +58,7 @@ static int is_image(const uint8_t *area)
         if (is_there(area, table[i].part) ? n < table[i].least || n > table[i].most : n != 0)
             return 0;
     }
-    return area[AT_CAPTURED] || !area[AT_RAW];
+    return area[AT_app_captured] || !area[AT_app_raw];
 }
 
 /* The rows follow each other and are the whole area. */
@@ -118,7 +83,7 @@ static int sample_count;
 /* Of one kind are those in which these bytes are the same. */
 static int same_kind(const uint8_t *a, const uint8_t *b)
 {
-    static const int places[] = {AT_TOUCH, AT_PAIR, AT_PAIR_STATE, AT_CAPTURED, AT_RAW, AT_END};
+    static const int places[] = {AT_touchNumber, AT_pairNumber, AT_pair_state, AT_app_captured, AT_app_raw, AT_endNumber};
     for (unsigned i = 0; i < sizeof places / sizeof places[0]; i++)
         if (a[places[i]] != b[places[i]])
             return 0;
@@ -186,7 +151,7 @@ static void hold(const struct call *c, const uint8_t *bytes, size_t count, uint3
         differs("area %lu, %s: writes beside its area or numbers", turn, name);
     if (!is_image(area))
         differs("area %lu, %s: what it leaves is no image by this reading", turn, name);
-    if (c->which == GRAB_MS && (memcmp(area, bytes, count) || told.out[0] != number_at(bytes, AT_GRAB, 2)))
+    if (c->which == GRAB_MS && (memcmp(area, bytes, count) || told.out[0] != number_at(bytes, AT_settings_grab_ms, 2)))
         differs("area %lu, %s: not the time, or the area altered", turn, name);
     if (c->which == FRESH)
         for (size_t i = 0; i < count; i++)
