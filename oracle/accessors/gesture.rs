@@ -1,7 +1,7 @@
 
 // ---- appended at build time: what the published text keeps private, for the comparison alone ----
 
-/// The tracker's fields, and the two settings of the program.
+/// The tracker's fields, the two settings of the program, and those that the Rust does not have.
 #[derive(Clone, Copy, PartialEq, Eq, Debug, Default)]
 pub struct Fields {
     pub active: bool,
@@ -27,6 +27,7 @@ pub struct Fields {
     pub keys_want: u8,
     pub grab_ms: u16,
     pub raw_next: bool,
+    pub more: crate::image::More,
 }
 
 impl Tracker {
@@ -52,6 +53,7 @@ impl Tracker {
             keys_want: self.keys_want,
             grab_ms: grab_ms(),
             raw_next: RAW_NEXT.load(Ordering::Relaxed),
+            more: Default::default(),
         }
     }
 

@@ -80,6 +80,7 @@ pub fn words(g: &Gesture) -> String {
 /// The probe's run on the Rust: one tracker, one pending record (the Rust's own).
 pub struct Side {
     pub tracker: Tracker,
+    more: image::More,
     pub out: Vec<u8>,
     calls: u64,
 }
@@ -90,7 +91,12 @@ impl Side {
         gesture::raw_next(false);
         touchcal::scpi_take();
         touch::LOG.lock().unwrap().clear();
-        Side { tracker: Tracker::new(), out: Vec::new(), calls: 0 }
+        Side { tracker: Tracker::new(), more: Default::default(), out: Vec::new(), calls: 0 }
+    }
+
+    /// The tracker's fields, with the settings beside it.
+    pub fn fields(&self) -> gesture::Fields {
+        gesture::Fields { more: self.more, ..self.tracker.fields() }
     }
 
     fn line(&mut self, refusal: u8, values: &str) {
@@ -111,7 +117,7 @@ impl Side {
         };
         drop(log);
         write!(self.out, "{} {refusal} {gesture} | {l} | ", self.calls).unwrap();
-        for b in image::of(&self.tracker.fields()) {
+        for b in image::of(&self.fields()) {
             let hex = |n: u8| b"0123456789abcdef"[usize::from(n)];
             self.out.push(hex(b >> 4));
             self.out.push(hex(b & 15));
@@ -293,6 +299,7 @@ impl Side {
             30 => {
                 self.calls += 1;
                 self.tracker = Tracker::new();
+                self.more = Default::default();
                 gesture::set_grab_ms(0);
                 gesture::raw_next(false);
                 self.gave(None);
@@ -352,6 +359,7 @@ impl Side {
                     None => self.tracked(STATE, "-"),
                     Some(f) => {
                         self.tracker = Tracker::of(&f);
+                        self.more = f.more;
                         self.gave(None);
                     }
                 }

@@ -47,7 +47,7 @@ pub fn calls(text: &str) -> Vec<Call> {
 
 /// The image of the tracker at hand, with bytes altered: a place and a value, and so on.
 fn altered(side: &Side, text: &str) -> Call {
-    let mut bytes = image::of(&side.tracker.fields());
+    let mut bytes = image::of(&side.fields());
     let numbers: Vec<usize> = text.split_whitespace().map(|w| w.parse().expect("a place or a value")).collect();
     numbers.chunks(2).for_each(|at| bytes[at[0]] = at[1] as u8);
     load(&bytes)

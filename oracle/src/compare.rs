@@ -147,7 +147,7 @@ fn history(d: &mut Dice, side: &mut Side, calls: &mut Vec<Call>, n: u64) {
     };
     make(vec![30], side, calls);
     for _ in 1..n {
-        let c = if d.one_in(30) { any_load(d, &side.tracker.fields()) } else { hand.call(d) };
+        let c = if d.one_in(30) { any_load(d, &side.fields()) } else { hand.call(d) };
         make(c, side, calls);
     }
 }

@@ -2,6 +2,10 @@
 //! hand at the layout, so that both sides print the tracker after each call.
 use crate::gesture::Fields;
 
+/// The settings that the Rust's tracker does not have: none so far. The side keeps them beside it.
+#[derive(Clone, Copy, PartialEq, Eq, Debug, Default)]
+pub struct More {}
+
 fn point(out: &mut Vec<u8>, x: i32, y: i32) {
     out.extend_from_slice(&(x as u16).to_le_bytes());
     out.extend_from_slice(&(y as u16).to_le_bytes());

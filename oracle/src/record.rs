@@ -38,7 +38,7 @@ pub fn calls(seed: u64) -> Vec<u8> {
             make(vec![30], &mut side);
             let mut hand = Hand::new(&mut d);
             for k in 1..HISTORY {
-                let c = if k % 17 == 16 { any_load(&mut d, &side.tracker.fields()) } else { hand.call(&mut d) };
+                let c = if k % 17 == 16 { any_load(&mut d, &side.fields()) } else { hand.call(&mut d) };
                 make(c, &mut side);
             }
         }
