@@ -4,14 +4,14 @@
 use mathlib.Core.Path.{◌≡◌, refl}
 use mathlib.Core.Bool.{Bool, true, false, not, ◌&&◌}
 use borrow.Author.Tests.{lt-ltb, le-ltb, le-leb, lt-leb, eq-eqb, ne_eqb}
-use Rattle.panel.specs.Tests.{if◌then◌else◌, ◌and◌, ◌or◌}
+use Rattle.panel.specs.Tests.{when◌then◌else◌, ◌and◌, ◌or◌}
 
-pub if-true : {A : Type 0} (b : Bool) (x y : A) → b ≡ true → if◌then◌else◌ b x y ≡ x
-unfolding if◌then◌else◌
+pub if-true : {A : Type 0} (b : Bool) (x y : A) → b ≡ true → when◌then◌else◌ b x y ≡ x
+unfolding when◌then◌else◌
 if-true b x y e = simp e
 
-pub if-false : {A : Type 0} (b : Bool) (x y : A) → b ≡ false → if◌then◌else◌ b x y ≡ y
-unfolding if◌then◌else◌
+pub if-false : {A : Type 0} (b : Bool) (x y : A) → b ≡ false → when◌then◌else◌ b x y ≡ y
+unfolding when◌then◌else◌
 if-false b x y e = simp e
 
 pub and-true : (a b : Bool) → a ≡ true → ◌and◌ a b ≡ b
@@ -49,24 +49,24 @@ joined true b c = refl
 joined false b c = refl
 
 -- a function of a choice is the choice of its values
-pub if-of : {A B : Type 0} (f : A → B) (b : Bool) (x y : A) → f (if◌then◌else◌ b x y) ≡ if◌then◌else◌ b (f x) (f y)
-unfolding if◌then◌else◌
+pub if-of : {A B : Type 0} (f : A → B) (b : Bool) (x y : A) → f (when◌then◌else◌ b x y) ≡ when◌then◌else◌ b (f x) (f y)
+unfolding when◌then◌else◌
 if-of f true x y = refl
 if-of f false x y = refl
 
 -- what holds of each side of a choice, where its test goes that way, holds of the choice
-pub if-know : {A : Type 0} (P : A → Type 0) (b : Bool) (x y : A) → (b ≡ true → P x) → (b ≡ false → P y) → P (if◌then◌else◌ b x y)
-unfolding if◌then◌else◌
+pub if-know : {A : Type 0} (P : A → Type 0) (b : Bool) (x y : A) → (b ≡ true → P x) → (b ≡ false → P y) → P (when◌then◌else◌ b x y)
+unfolding when◌then◌else◌
 if-know P true x y yes-x no-y = yes-x refl
 if-know P false x y yes-x no-y = no-y refl
 
 -- what holds of both sides of a choice holds of the choice
-pub if-all : {A : Type 0} (P : A → Type 0) (b : Bool) {x y : A} → P x → P y → P (if◌then◌else◌ b x y)
+pub if-all : {A : Type 0} (P : A → Type 0) (b : Bool) {x y : A} → P x → P y → P (when◌then◌else◌ b x y)
 if-all P b {x} {y} both-x both-y = if-know P b x y (λ yes. both-x) (λ no. both-y)
 
 -- two choices by one test
-pub if-two : {A B : Type 0} (P : A → B → Type 0) (b : Bool) (x y : A) (u v : B) → (b ≡ true → P x u) → (b ≡ false → P y v) → P (if◌then◌else◌ b x y) (if◌then◌else◌ b u v)
-unfolding if◌then◌else◌
+pub if-two : {A B : Type 0} (P : A → B → Type 0) (b : Bool) (x y : A) (u v : B) → (b ≡ true → P x u) → (b ≡ false → P y v) → P (when◌then◌else◌ b x y) (when◌then◌else◌ b u v)
+unfolding when◌then◌else◌
 if-two P true x y u v yes-x no-y = yes-x refl
 if-two P false x y u v yes-x no-y = no-y refl
 

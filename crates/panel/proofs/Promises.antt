@@ -12,7 +12,7 @@ use Rattle.panel.specs.Distances.{difference, distance, distance2, dist_of, dist
 use Rattle.panel.specs.Points.{on_panel, all_on_panel, fingers, first_points}
 use Rattle.panel.specs.Refusals.{number_of, Told}
 use Rattle.panel.specs.Sizes.{lock_wide}
-use Rattle.panel.specs.Tests.{if◌then◌else◌, ◌and◌, ◌≤?◌, bit}
+use Rattle.panel.specs.Tests.{when◌then◌else◌, ◌and◌, ◌≤?◌, bit}
 use Rattle.panel.specs.declared.axes.Axis.{Axis}
 use Rattle.panel.specs.declared.axes.AxisLock.{AxisLock}
 use Rattle.panel.specs.declared.axes.AxisLock.TheVariants.{Free}
@@ -56,20 +56,20 @@ abbrev tells : {A : Type 0} → ℕ → A → Told A
 tells n a = record { number = n; value = a }
 
 -- PANEL, number 2 and a zero, exactly for a point off the panel.
-pub dist-tells : (p q : Point) → told_dist (dist_of p q) ≡ if◌then◌else◌ (◌and◌ (on_panel p) (on_panel q)) (tells 0 (distance p q)) (tells 2 0)
+pub dist-tells : (p q : Point) → told_dist (dist_of p q) ≡ when◌then◌else◌ (◌and◌ (on_panel p) (on_panel q)) (tells 0 (distance p q)) (tells 2 0)
 unfolding dist_of
 dist-tells p q = if-of told_dist _ _ _
 
-pub dist2-tells : (p q : Point) → told_dist (dist2_of p q) ≡ if◌then◌else◌ (◌and◌ (on_panel p) (on_panel q)) (tells 0 (distance2 p q)) (tells 2 0)
+pub dist2-tells : (p q : Point) → told_dist (dist2_of p q) ≡ when◌then◌else◌ (◌and◌ (on_panel p) (on_panel q)) (tells 0 (distance2 p q)) (tells 2 0)
 unfolding dist2_of
 dist2-tells p q = if-of told_dist _ _ _
 
-pub centroid-tells : (count : ℕ) (pts : List Point) → told_centroid (centroid_of count pts) ≡ if◌then◌else◌ (all_on_panel (first_points count pts)) (tells 0 (middle (first_points count pts))) (tells 2 (record { x = 0; y = 0 }))
+pub centroid-tells : (count : ℕ) (pts : List Point) → told_centroid (centroid_of count pts) ≡ when◌then◌else◌ (all_on_panel (first_points count pts)) (tells 0 (middle (first_points count pts))) (tells 2 (record { x = 0; y = 0 }))
 unfolding centroid_of
 centroid-tells count pts = if-of told_centroid _ _ _
 
 -- WIDE, number 3, exactly past the limit in either part.
-pub lock-tells : (dx dy : ℤ) → told_lock (lock_of dx dy) ≡ if◌then◌else◌ (◌and◌ (nat_abs dx ≤? lock_wide) (nat_abs dy ≤? lock_wide)) (tells 0 (axis_of (nat_abs dx) (nat_abs dy))) (tells 3 Free)
+pub lock-tells : (dx dy : ℤ) → told_lock (lock_of dx dy) ≡ when◌then◌else◌ (◌and◌ (nat_abs dx ≤? lock_wide) (nat_abs dy ≤? lock_wide)) (tells 0 (axis_of (nat_abs dx) (nat_abs dy))) (tells 3 Free)
 unfolding lock_of
 lock-tells dx dy = if-of told_lock _ _ _
 

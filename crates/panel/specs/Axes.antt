@@ -5,7 +5,7 @@
 use Rattle.std.specs.Prelude.{ℕ, ◌*◌, max, ℤ, nat_abs}
 use Rattle.panel.specs.Refusals.{Told, answered, refused}
 use Rattle.panel.specs.Sizes.{lock_max, lock_wide}
-use Rattle.panel.specs.Tests.{if◌then◌else◌, ◌and◌, ◌≤?◌, ◌<?◌}
+use Rattle.panel.specs.Tests.{when◌then◌else◌, ◌and◌, ◌≤?◌, ◌<?◌}
 use Rattle.panel.specs.declared.axes.Axis.{Axis}
 use Rattle.panel.specs.declared.axes.Axis.TheVariants.{H, «V»}
 use Rattle.panel.specs.declared.axes.AxisLock.{AxisLock}
@@ -17,14 +17,14 @@ use Rattle.panel.specs.declared.refusals.Refusal.TheVariants.{Wide}
 -- of a drag by ax along x and ay along y, whichever way
 unfoldable pub axis_of : ℕ → ℕ → AxisLock
 axis_of ax ay =
-    if 3 * ay ≤? 2 * ax then On H
-    else if 3 * ax ≤? 2 * ay then On «V»
-    else if lock_max <? max ax ay then (if ay ≤? ax then On H else On «V»)
+    when 3 * ay ≤? 2 * ax then On H
+    else when 3 * ax ≤? 2 * ay then On «V»
+    else when lock_max <? max ax ay then (when ay ≤? ax then On H else On «V»)
     else Free
 
 unfoldable pub lock_of : ℤ → ℤ → LockAnswer
 lock_of dx dy =
-    if (nat_abs dx ≤? lock_wide) and (nat_abs dy ≤? lock_wide) then Answered (axis_of (nat_abs dx) (nat_abs dy))
+    when (nat_abs dx ≤? lock_wide) and (nat_abs dy ≤? lock_wide) then Answered (axis_of (nat_abs dx) (nat_abs dy))
     else Refused Wide
 
 abbrev pub told_lock : LockAnswer → Told AxisLock

@@ -5,7 +5,7 @@
 use Rattle.std.specs.Prelude.{ℕ, ◌+◌, ◌/◌, List, [], ◌∷◌, map, length}
 use Rattle.panel.specs.Points.{all_on_panel, first_points}
 use Rattle.panel.specs.Refusals.{Told, answered, refused}
-use Rattle.panel.specs.Tests.{if◌then◌else◌}
+use Rattle.panel.specs.Tests.{when◌then◌else◌}
 use Rattle.panel.specs.declared.middle.CentroidAnswer.{CentroidAnswer}
 use Rattle.panel.specs.declared.middle.CentroidAnswer.TheVariants.{Answered, Refused}
 use Rattle.panel.specs.declared.points.Point.{Point}
@@ -32,7 +32,7 @@ middle ps = record { x = mean (xs ps); y = mean (ys ps) }
 unfoldable pub centroid_of : ℕ → List Point → CentroidAnswer
 centroid_of count pts =
     let used = first_points count pts in
-    if all_on_panel used then Answered (middle used) else Refused Panel
+    when all_on_panel used then Answered (middle used) else Refused Panel
 
 abbrev pub told_centroid : CentroidAnswer → Told Point
 told_centroid (Answered p) = answered p

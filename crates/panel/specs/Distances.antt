@@ -5,7 +5,7 @@
 use Rattle.std.specs.Prelude.{ℕ, ◌+◌, ◌-◌, ◌*◌, max}
 use Rattle.panel.specs.Points.{on_panel}
 use Rattle.panel.specs.Refusals.{Told, answered, refused}
-use Rattle.panel.specs.Tests.{if◌then◌else◌, ◌and◌}
+use Rattle.panel.specs.Tests.{when◌then◌else◌, ◌and◌}
 use Rattle.panel.specs.declared.distances.DistAnswer.{DistAnswer}
 use Rattle.panel.specs.declared.distances.DistAnswer.TheVariants.{Answered, Refused}
 use Rattle.panel.specs.declared.points.Point.{Point}
@@ -25,10 +25,10 @@ distance2 p q =
     dx * dx + dy * dy
 
 unfoldable pub dist_of : Point → Point → DistAnswer
-dist_of p q = if on_panel p and on_panel q then Answered (distance p q) else Refused Panel
+dist_of p q = when on_panel p and on_panel q then Answered (distance p q) else Refused Panel
 
 unfoldable pub dist2_of : Point → Point → DistAnswer
-dist2_of p q = if on_panel p and on_panel q then Answered (distance2 p q) else Refused Panel
+dist2_of p q = when on_panel p and on_panel q then Answered (distance2 p q) else Refused Panel
 
 abbrev pub told_dist : DistAnswer → Told ℕ
 told_dist (Answered d) = answered d

@@ -2,15 +2,15 @@
 -- numbers; and a truth as a number. The choice and the joins stay shut (`unfoldable`): proofs follow them by the laws of proofs/Follow.antt.
 use Rattle.std.specs.Prelude.{ℕ, Bool, true, false, leb, ltb, eqb}
 
-infixr 10 if◌then◌else◌
+infixr 10 when◌then◌else◌
 infixr 20 ◌or◌
 infixr 30 ◌and◌
 infix 40 ◌≤?◌
 infix 40 ◌<?◌
 infix 40 ◌=?◌
-unfoldable pub if◌then◌else◌ : {A : Type 0} → Bool → A → A → A
-if◌then◌else◌ true a b = a
-if◌then◌else◌ false a b = b
+unfoldable pub when◌then◌else◌ : {A : Type 0} → Bool → A → A → A
+when◌then◌else◌ true a b = a
+when◌then◌else◌ false a b = b
 
 unfoldable pub ◌and◌ : Bool → Bool → Bool
 ◌and◌ true b = b

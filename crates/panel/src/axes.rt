@@ -7,7 +7,7 @@ use crate::distances;
 use crate::refusals::Refusal;
 
 // The locked axis of a drag, and the axis along which two fingers stand.
-#[derive(Drop)]
+#[derive(Clone, Copy)]
 pub enum Axis {
     // Along x.
     H,
@@ -16,7 +16,7 @@ pub enum Axis {
 }
 
 // The axis that a drag is held to, once it is known.
-#[derive(Drop)]
+#[derive(Clone, Copy)]
 pub enum AxisLock {
     Free,
     On(Axis),
@@ -32,7 +32,7 @@ pub fn axis_number(a: Axis) -> u8
     }
 }
 
-#[derive(Drop)]
+#[derive(Clone, Copy)]
 pub enum LockAnswer {
     Answered(AxisLock),
     Refused(Refusal),

@@ -8,7 +8,7 @@ use crate::points::Point;
 use crate::refusals::Refusal;
 
 // A distance in pixels, or the square of one.
-#[derive(Drop)]
+#[derive(Clone, Copy)]
 pub enum DistAnswer {
     Answered(u32),
     Refused(Refusal),

@@ -1,6 +1,8 @@
 // The panel's geometry: the leaf that the tracker and the calibration stand on. Points and reports,
 // the panel's size, the refusal numbers of all crates, and the three measures of document 01: how
 // far two points are apart, where the middle of some fingers is, and along which axis a drag runs.
+#![tactic(auto)]
+
 mod axes;
 mod distances;
 mod middle;

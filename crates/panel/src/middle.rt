@@ -8,13 +8,13 @@ use crate::points;
 use crate::points::{MAX_POINTS, Point};
 use crate::refusals::Refusal;
 
-#[derive(Drop)]
+#[derive(Clone, Copy)]
 pub enum CentroidAnswer {
     Answered(Point),
     Refused(Refusal),
 }
 
-#[derive(Drop)]
+#[derive(Clone, Copy)]
 struct Sums {
     x: u32,
     y: u32,

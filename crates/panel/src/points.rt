@@ -12,14 +12,14 @@ pub const HEIGHT: u16 = 320;
 pub const MAX_POINTS: usize = 5;
 
 // A place in pixels, from the upper left corner. Any two numbers: on_panel says whether it is on the panel.
-#[derive(Drop)]
+#[derive(Clone, Copy)]
 pub struct Point {
     pub x: u16,
     pub y: u16,
 }
 
 // A report of the controller.
-#[derive(Drop)]
+#[derive(Clone, Copy)]
 pub struct Event {
     // The number of fingers, 0 when all are up.
     pub points: u8,
