@@ -1,6 +1,6 @@
 -- What one computed test over every byte shows of the lowest bit set. Assumes nothing.
 use mathlib.Core.Path.{◌≡◌, sym, subst}
-use mathlib.Core.Logic.{◌⊎◌, ⊎_elim}
+use mathlib.Core.Logic.{⊎_elim}
 use mathlib.Core.Bool.{Bool, true, false}
 use Prim.Native.Nat.{ℕ, zero, suc, ◌<◌, ◌/◌, ◌%◌, ◌^◌}
 use native.Mathlib.Nat.{eq-or-lt_of_le, le_of_suc-le-suc, not-suc-le-zero}
@@ -34,8 +34,8 @@ below f (suc n) t k h =
 
 -- The lowest key of a mask that has one: it is one of eight, its bit is set, and none below it.
 
-abbrev in-range : ℕ → Bool
-in-range m = ltb (count_trailing_zeros key_count m) key_count
+abbrev in_range : ℕ → Bool
+in_range m = ltb (count_trailing_zeros key_count m) key_count
 
 abbrev is_set : ℕ → Bool
 is_set m = eqb (m / 2 ^ count_trailing_zeros key_count m % 2) 1
@@ -43,27 +43,27 @@ is_set m = eqb (m / 2 ^ count_trailing_zeros key_count m % 2) 1
 abbrev none_below : ℕ → Bool
 none_below m = eqb (m % 2 ^ count_trailing_zeros key_count m) 0
 
-abbrev low-test : ℕ → Bool
-low-test zero = true
-low-test (suc m) = both (in-range (suc m)) (both (is_set (suc m)) (none_below (suc m)))
+abbrev low_test : ℕ → Bool
+low_test zero = true
+low_test (suc m) = both (in_range (suc m)) (both (is_set (suc m)) (none_below (suc m)))
 
-low : (m : ℕ) → m < 256 → T (low-test m)
+low : (m : ℕ) → m < 256 → T (low_test m)
 unfolding count_trailing_zeros
-low m h = below low-test 256 tt m h
+low m h = below low_test 256 tt m h
 
 pub lowest-lt : (m : ℕ) → zero < m → m < 256 → lowest m < key_count
 unfolding lowest
 lowest-lt zero p h = absurd (not-suc-le-zero p)
 lowest-lt (suc m) p h =
     let n = suc m in
-    ltb→lt (count_trailing_zeros key_count n) key_count (both_left (in-range n) (both (is_set n) (none_below n)) (low n h))
+    ltb→lt (count_trailing_zeros key_count n) key_count (both_left (in_range n) (both (is_set n) (none_below n)) (low n h))
 
 pub lowest-is-set : (m : ℕ) → zero < m → m < 256 → m / 2 ^ lowest m % 2 ≡ 1
 unfolding lowest
 lowest-is-set zero p h = absurd (not-suc-le-zero p)
 lowest-is-set (suc m) p h =
     let n = suc m in
-    let rest = both_right (in-range n) (both (is_set n) (none_below n)) (low n h) in
+    let rest = both_right (in_range n) (both (is_set n) (none_below n)) (low n h) in
     eqb→eq (n / 2 ^ count_trailing_zeros key_count n % 2) 1 (both_left (is_set n) (none_below n) rest)
 
 pub none-below-lowest : (m : ℕ) → zero < m → m < 256 → m % 2 ^ lowest m ≡ 0
@@ -71,5 +71,5 @@ unfolding lowest
 none-below-lowest zero p h = absurd (not-suc-le-zero p)
 none-below-lowest (suc m) p h =
     let n = suc m in
-    let rest = both_right (in-range n) (both (is_set n) (none_below n)) (low n h) in
+    let rest = both_right (in_range n) (both (is_set n) (none_below n)) (low n h) in
     eqb→eq (n % 2 ^ count_trailing_zeros key_count n) 0 (both_right (is_set n) (none_below n) rest)

@@ -7,7 +7,7 @@ use native.Mathlib.Omega.{arith}
 use borrow.Author.Tests.{eq-eqb, ne_eqb}
 use lib.Bits.{bit_and, bit_xor, differ, and_shr, xor_shr, and_step, xor_step}
 use lib.Dec.{eqb, eqb→eq}
-use Rattle.panel.specs.Tests.{if◌then◌else◌}
+use Rattle.panel.specs.Tests.{when◌then◌else◌}
 use Rattle.fingers.specs.Keys.{key_count, all_keys, without, flipped, key_step}
 use Rattle.fingers.specs.declared.keys.KeyStep.TheVariants.{Same}
 use Rattle.fingers.proofs.Bytes.{every, below}
@@ -22,13 +22,13 @@ last x b h = omega arith
 turned : ℕ → ℕ → Bool
 turned other key = eqb (bit_at (all_keys - other) key) (1 - bit_at other key)
 
-abbrev every-key : ℕ → Bool
-every-key other = every (turned other) key_count
+abbrev every_key : ℕ → Bool
+every_key other = every (turned other) key_count
 
 -- a mask's complement has the other bit everywhere
 complement : (other key : ℕ) → other < 256 → key < key_count → bit_at (all_keys - other) key ≡ 1 - bit_at other key
 unfolding turned
-complement other key ho hk = eqb→eq (bit_at (all_keys - other) key) (1 - bit_at other key) (below (turned other) key_count (below every-key 256 tt other ho) key hk)
+complement other key ho hk = eqb→eq (bit_at (all_keys - other) key) (1 - bit_at other key) (below (turned other) key_count (below every_key 256 tt other ho) key hk)
 
 and-bit : (a b key : ℕ) → bit_at (bit_and a b) key ≡ min (bit_at a key) (bit_at b key)
 and-bit a b key =
@@ -59,12 +59,12 @@ digit false = 0
 alone : ℕ → ℕ → Bool
 alone key k = eqb (bit_at (2 ^ key) k) (digit (eqb k key))
 
-abbrev every-place : ℕ → Bool
-every-place key = every (alone key) key_count
+abbrev every_place : ℕ → Bool
+every_place key = every (alone key) key_count
 
 power-bit : (key k : ℕ) → key < key_count → k < key_count → bit_at (2 ^ key) k ≡ digit (eqb k key)
 unfolding alone
-power-bit key k h hk = eqb→eq (bit_at (2 ^ key) k) (digit (eqb k key)) (below (alone key) key_count (below every-place key_count tt key h) k hk)
+power-bit key k h hk = eqb→eq (bit_at (2 ^ key) k) (digit (eqb k key)) (below (alone key) key_count (below every_place key_count tt key h) k hk)
 
 differ-one : (x : ℕ) → x ≤ 1 → differ x 1 ≡ 1 - x
 differ-one zero h = refl
@@ -94,5 +94,5 @@ unfolding without
 none-new mask h = eqb→eq (without mask mask) 0 (below (λ (m : ℕ). eqb (without m m) 0) 256 tt mask h)
 
 pub same-masks : (keys want : ℕ) → keys < 256 → keys ≡ want → key_step keys want ≡ Same
-unfolding key_step if◌then◌else◌
+unfolding key_step when◌then◌else◌
 same-masks keys want h e = subst (λ (w : ℕ). key_step keys w ≡ Same) e (rw (none-new keys h) refl)

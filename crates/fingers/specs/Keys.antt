@@ -5,7 +5,7 @@
 use Rattle.std.specs.Prelude.{ℕ, ◌-◌, ◌^◌}
 use Rattle.std.specs.Int.Bits.{bit_and, bit_xor}
 use Rattle.std.specs.Int.Count.{count_trailing_zeros}
-use Rattle.panel.specs.Tests.{if◌then◌else◌, ◌<?◌}
+use Rattle.panel.specs.Tests.{when◌then◌else◌, ◌<?◌}
 use Rattle.fingers.specs.declared.keys.KeyStep.{KeyStep}
 use Rattle.fingers.specs.declared.keys.KeyStep.TheVariants.{Same, Flipped}
 use Rattle.fingers.specs.declared.gestures.Gesture.TheVariants.{KeyUp, KeyDown}
@@ -31,6 +31,6 @@ flipped mask key = bit_xor mask (2 ^ key)
 -- of the mask that gestures told of so far, towards the mask that is wanted
 unfoldable pub key_step : ℕ → ℕ → KeyStep
 key_step keys want =
-    if 0 <? without keys want then Flipped (KeyUp (lowest (without keys want))) (flipped keys (lowest (without keys want)))
-    else if 0 <? without want keys then Flipped (KeyDown (lowest (without want keys))) (flipped keys (lowest (without want keys)))
+    when 0 <? without keys want then Flipped (KeyUp (lowest (without keys want))) (flipped keys (lowest (without keys want)))
+    else when 0 <? without want keys then Flipped (KeyDown (lowest (without want keys))) (flipped keys (lowest (without want keys)))
     else Same

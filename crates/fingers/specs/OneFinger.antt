@@ -5,7 +5,7 @@
 -- on: Drag(start, point, axis) at each report. Axis, kept once found, no Drag before: H if 2|dx| >= 3|dy|; V if 2|dy| >=
 -- 3|dx|; else, over 30, the larger, a tie H."
 use Rattle.std.specs.Prelude.{ℕ, ◌-◌, max, Bool, not}
-use Rattle.panel.specs.Tests.{if◌then◌else◌, ◌and◌, ◌or◌, ◌<?◌, ◌=?◌}
+use Rattle.panel.specs.Tests.{when◌then◌else◌, ◌and◌, ◌or◌, ◌<?◌, ◌=?◌}
 use Rattle.panel.specs.Distances.{difference, distance}
 use Rattle.panel.specs.Axes.{axis_of}
 use Rattle.panel.specs.declared.points.Point.{Point}
@@ -43,7 +43,7 @@ unfoldable pub same_point : Point → Point → Bool
 same_point p q = (p.x =? q.x) and (p.y =? q.y)
 
 unfoldable pub move_from : Point → Point → Outcome
-move_from prev p = if same_point prev p then Quiet else Gives (Move prev p)
+move_from prev p = when same_point prev p then Quiet else Gives (Move prev p)
 
 -- kept once found
 unfoldable pub axis_at : AxisLock → Point → Point → AxisLock
@@ -60,13 +60,13 @@ may_drag o hold = o.moved and (o.grabbed or (hold =? 0))
 
 unfoldable pub moving : One → Bool → ℕ → Point → Point → Point → OneStep
 moving o raw hold prev start p =
-    if raw then step (move_from prev p) o
-    else if may_drag o hold then drag_along (axis_at o.axis start p) o start p
+    when raw then step (move_from prev p) o
+    else when may_drag o hold then drag_along (axis_at o.axis start p) o start p
     else step Quiet o
 
 unfoldable pub grab_or_moving : One → Bool → ℕ → ℕ → Point → Point → Point → OneStep
 grab_or_moving o raw hold held prev start p =
-    if grab_due o hold held then step (Gives (Grab start)) (set_grabbed o)
+    when grab_due o hold held then step (Gives (Grab start)) (set_grabbed o)
     else moving o raw hold prev start p
 
 -- a report of one finger at p, down at start since a time

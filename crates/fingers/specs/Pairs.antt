@@ -4,7 +4,7 @@
 -- centroid 30 down makes 2. State 1 answers Pinch(axis, span0, span), spans within 1..999". "Three or more turn the pair to
 -- state 2". "Pair identity: keep the order if its squared travel is not larger."
 use Rattle.std.specs.Prelude.{ℕ, ◌+◌, ◌-◌, max, min, Bool}
-use Rattle.panel.specs.Tests.{if◌then◌else◌, ◌≤?◌, ◌=?◌}
+use Rattle.panel.specs.Tests.{when◌then◌else◌, ◌≤?◌, ◌=?◌}
 use Rattle.panel.specs.Distances.{difference, distance2}
 use Rattle.panel.specs.declared.points.Point.{Point}
 use Rattle.panel.specs.declared.axes.Axis.{Axis}
@@ -29,7 +29,7 @@ span_along H p q = difference p.x q.x
 span_along «V» p q = difference p.y q.y
 
 unfoldable pub pair_axis : Point → Point → Axis
-pair_axis p q = if difference p.y q.y ≤? difference p.x q.x then H else «V»
+pair_axis p q = when difference p.y q.y ≤? difference p.x q.x then H else «V»
 
 -- of the fingers p and q, whose centroid is c
 unfoldable pub new_pair : Point → Point → Point → Pair
@@ -41,7 +41,7 @@ keeps_order r p q = distance2 r.a p + distance2 r.b q ≤? distance2 r.a q + dis
 -- by how much the span changed, and how far down the centroid came
 unfoldable pub state_next : ℕ → ℕ → ℕ → ℕ
 state_next state change down =
-    if state =? undecided then (if pinch_min ≤? change then pinching else if pinch_swipe ≤? down then no_pinch else undecided)
+    when state =? undecided then (when pinch_min ≤? change then pinching else when pinch_swipe ≤? down then no_pinch else undecided)
     else state
 
 -- the pair with its fingers at a and b
@@ -57,7 +57,7 @@ pair_at r a b c =
     }
 
 unfoldable pub pair_next : Pair → Point → Point → Point → Pair
-pair_next r p q c = if keeps_order r p q then pair_at r p q c else pair_at r q p c
+pair_next r p q c = when keeps_order r p q then pair_at r p q c else pair_at r q p c
 
 unfoldable pub span_told : ℕ → ℕ
 span_told span = min (max span span_least) span_most

@@ -8,7 +8,7 @@
 -- "Multi rule: dy at least 60 (n 2) or 30 (n 3), dy > |dx|, at most 2000 ms. Others nothing." "gives PinchEnd(true) if a
 -- pinch, else the multi rule."
 use Rattle.std.specs.Prelude.{ℕ, ◌-◌, Bool, true, false}
-use Rattle.panel.specs.Tests.{if◌then◌else◌, ◌and◌, ◌≤?◌, ◌<?◌, ◌=?◌}
+use Rattle.panel.specs.Tests.{when◌then◌else◌, ◌and◌, ◌≤?◌, ◌<?◌, ◌=?◌}
 use Rattle.panel.specs.Distances.{difference}
 use Rattle.panel.specs.declared.points.Point.{Point}
 use Rattle.fingers.specs.Thresholds.{multi_min2, multi_min3, multi_max}
@@ -31,19 +31,19 @@ multi_from n c now = record { n = n; c0 = c; t0 = now; c1 = c; t1 = now }
 
 -- "multi changes only if n grew"
 unfoldable pub multi_grown : Multi → ℕ → Point → ℕ → Multi
-multi_grown m n c now = if m.n <? n then multi_from n c now else m
+multi_grown m n c now = when m.n <? n then multi_from n c now else m
 
 -- "n above the most seen restarts multi; n equal updates its last centroid and time"
 unfoldable pub multi_seen : Multi → ℕ → Point → ℕ → Multi
 multi_seen m n c now =
-    if m.n <? n then multi_from n c now
-    else if n =? m.n then record { n = m.n; c0 = m.c0; t0 = m.t0; c1 = c; t1 = now }
+    when m.n <? n then multi_from n c now
+    else when n =? m.n then record { n = m.n; c0 = m.c0; t0 = m.t0; c1 = c; t1 = now }
     else m
 
 -- two fingers, with the pair as it is at this report
 unfoldable pub pinch_or_seen : Pair → Multi → Point → ℕ → MultiStep
 pinch_or_seen r m c now =
-    if r.state =? pinching then multi_step (Gives (pinch_of r)) m (Paired r)
+    when r.state =? pinching then multi_step (Gives (pinch_of r)) m (Paired r)
     else multi_step Quiet (multi_seen m 2 c now) (Paired r)
 
 unfoldable pub two_fingers : Pairing → Multi → Point → Point → Point → ℕ → MultiStep
@@ -52,7 +52,7 @@ two_fingers (Paired r) m p q c now = pinch_or_seen (pair_next r p q c) m c now
 
 unfoldable pub pinch_end_or_seen : Pair → Multi → ℕ → Point → ℕ → MultiStep
 pinch_end_or_seen r m n c now =
-    if r.state =? pinching then multi_step (Gives (PinchEnd false)) (multi_grown m n c now) (Paired (not_pinch r))
+    when r.state =? pinching then multi_step (Gives (PinchEnd false)) (multi_grown m n c now) (Paired (not_pinch r))
     else multi_step Quiet (multi_seen m n c now) (Paired (not_pinch r))
 
 unfoldable pub three_fingers : Pairing → Multi → ℕ → Point → ℕ → MultiStep
@@ -63,14 +63,14 @@ three_fingers (Paired r) m n c now = pinch_end_or_seen r m n c now
 
 -- dy: how far down the centroid came
 unfoldable pub far_down : ℕ → ℕ → Bool
-far_down n dy = if n =? 2 then multi_min2 ≤? dy else if n =? 3 then multi_min3 ≤? dy else false
+far_down n dy = when n =? 2 then multi_min2 ≤? dy else when n =? 3 then multi_min3 ≤? dy else false
 
 unfoldable pub swiped_down : ℕ → ℕ → ℕ → ℕ → Bool
 swiped_down n dx dy took = far_down n dy and (dx <? dy) and (took ≤? multi_max)
 
 unfoldable pub multi_rule : Multi → Outcome
 multi_rule m =
-    if swiped_down m.n (difference m.c0.x m.c1.x) (m.c1.y - m.c0.y) (m.t1 - m.t0) then Gives (MultiSwipeDown m.n)
+    when swiped_down m.n (difference m.c0.x m.c1.x) (m.c1.y - m.c0.y) (m.t1 - m.t0) then Gives (MultiSwipeDown m.n)
     else Quiet
 
 unfoldable pub is_pinch : Pairing → Bool
@@ -78,4 +78,4 @@ is_pinch Unpaired = false
 is_pinch (Paired r) = r.state =? pinching
 
 unfoldable pub multi_end : Multi → Pairing → Outcome
-multi_end m pair = if is_pinch pair then Gives (PinchEnd true) else multi_rule m
+multi_end m pair = when is_pinch pair then Gives (PinchEnd true) else multi_rule m

@@ -1,7 +1,7 @@
 // The gestures, with the Rust's names and field order, and what one step of the tracker comes to.
 use panel::{Axis, Point};
 
-#[derive(Drop)]
+#[derive(Clone, Copy)]
 pub enum Gesture {
     // Finger down, for immediate feedback.
     Down(Point),
@@ -33,14 +33,14 @@ pub enum Gesture {
 }
 
 // Why a touch came to nothing, for the log: the note's number and the point that goes with it.
-#[derive(Drop)]
+#[derive(Clone, Copy)]
 pub struct Note {
     pub number: u8,
     pub p: Point,
 }
 
 // What a step comes to.
-#[derive(Drop)]
+#[derive(Clone, Copy)]
 pub enum Outcome {
     // Nothing, and nothing to log.
     Quiet,

@@ -6,7 +6,7 @@ ghost use Rattle.fingers.specs.Keys.{key_count, without, lowest, flipped, key_st
 use crate::gestures::Gesture;
 
 // The side keys, a bit for each.
-#[derive(Drop)]
+#[derive(Clone, Copy)]
 pub struct Keys {
     // As told by gestures so far ...
     pub told: u8,
@@ -15,7 +15,7 @@ pub struct Keys {
     pub wanted: u8,
 }
 
-#[derive(Drop)]
+#[derive(Clone, Copy)]
 pub enum KeyStep {
     // What gestures told of is what is wanted.
     Same,

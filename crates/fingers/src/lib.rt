@@ -1,6 +1,8 @@
 // What fingers and keys come to, rule by rule: the side keys, one finger, its hold and its release, several
 // fingers, and the pair that tells a pinch. Each rule works on the part of the tracker that it alters; the
 // crate gesture above keeps the tracker and decides which rule a call goes by.
+#![tactic(auto)]
+
 mod gestures;
 mod hold;
 mod keys;

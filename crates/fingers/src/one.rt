@@ -9,7 +9,7 @@ use panel::{Axis, AxisLock, Point};
 
 // What the one finger of a touch did. It outlives the touch: what a capture and the log look at is the last one-finger
 // touch, which several fingers may have followed.
-#[derive(Drop)]
+#[derive(Clone, Copy)]
 pub struct One {
     pub last: Point,
     pub long_sent: bool,
@@ -26,7 +26,7 @@ pub struct One {
 }
 
 // What the app made of the touch. It outlives the touch too.
-#[derive(Drop)]
+#[derive(Clone, Copy)]
 pub struct App {
     // Raw-move touch: raw_next was on at the capture.
     pub raw: bool,
@@ -36,7 +36,7 @@ pub struct App {
     pub captured: bool,
 }
 
-#[derive(Drop)]
+#[derive(Clone, Copy)]
 pub struct OneStep {
     pub out: Outcome,
     pub one: One,

@@ -8,7 +8,7 @@ use crate::thresholds::{PINCH_MIN, PINCH_SWIPE, SPAN_LEAST, SPAN_MOST};
 use panel::{Axis, Point};
 
 // The fingers in identity order, the separation and the centroid at the start, the classification.
-#[derive(Drop)]
+#[derive(Clone, Copy)]
 pub struct Pair {
     pub a: Point,
     pub b: Point,
@@ -19,7 +19,7 @@ pub struct Pair {
     pub state: u8,
 }
 
-#[derive(Drop)]
+#[derive(Clone, Copy)]
 pub enum Pairing {
     Unpaired,
     Paired(Pair),

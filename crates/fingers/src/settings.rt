@@ -3,7 +3,7 @@ ghost use Rattle.std.specs.Prelude.{◌≡◌};
 ghost use Rattle.fingers.specs.Settings as settings;
 ghost use Rattle.fingers.specs.Settings.{set_raw, set_grab};
 
-#[derive(Drop)]
+#[derive(Clone, Copy)]
 pub struct Settings {
     // A capture that takes the touch makes it a raw-move touch. Every capture uses the wish up.
     pub raw_next: bool,

@@ -10,7 +10,7 @@ use crate::thresholds::{MULTI_MAX_MS, MULTI_MIN_2, MULTI_MIN_3};
 use crate::{hold, pair};
 use panel::Point;
 
-#[derive(Drop)]
+#[derive(Clone, Copy)]
 pub struct Multi {
     // When the most fingers of this touch were first seen, how many they are, and their centroid.
     pub t0: u64,
@@ -22,7 +22,7 @@ pub struct Multi {
     pub c1: Point,
 }
 
-#[derive(Drop)]
+#[derive(Clone, Copy)]
 pub struct MultiStep {
     pub out: Outcome,
     pub pair: Pairing,
