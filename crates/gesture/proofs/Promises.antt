@@ -3,7 +3,7 @@
 use mathlib.Core.Path.{◌≡◌, refl, ap, ◌∙◌}
 use mathlib.Core.Bool.{Bool, true, false}
 use Prim.Native.Nat.{ℕ}
-use Rattle.panel.specs.Tests.{if◌then◌else◌}
+use Rattle.panel.specs.Tests.{when◌then◌else◌}
 use Rattle.panel.specs.Points.{all_on_panel}
 use Rattle.panel.specs.declared.points.Event.{Event}
 use Rattle.panel.proofs.Promises.{one_answer}
@@ -32,31 +32,31 @@ abbrev tells : ℕ → Given → Log → Tracker → Answer
 tells number gesture log t = record { refusal = number; gesture = gesture; log = log; tracker = t }
 
 module _ (t : Tracker) where
-  pub event-tells : (ev : Event) (now : ℕ) → event_of t ev now ≡ if◌then◌else◌ (state_rule t) (if◌then◌else◌ (all_on_panel (points_in_use ev)) (tells 0 (given_by (report_step t ev now).out) (report_line (report_step t ev now).out (is_locked t.one.axis) now) (report_step t ev now).tracker) (tells 2 Nothing Silent t)) (tells 1 Nothing Silent t)
+  pub event-tells : (ev : Event) (now : ℕ) → event_of t ev now ≡ when◌then◌else◌ (state_rule t) (when◌then◌else◌ (all_on_panel (points_in_use ev)) (tells 0 (given_by (report_step t ev now).out) (report_line (report_step t ev now).out (is_locked t.one.axis) now) (report_step t ev now).tracker) (tells 2 Nothing Silent t)) (tells 1 Nothing Silent t)
   unfolding event_of reported answered refused
   event-tells ev now = refl
 
-  pub tick-tells : (now : ℕ) → tick_of t now ≡ if◌then◌else◌ (state_rule t) (tells 0 (given_by (tick_step t now).out) (tick_line (tick_step t now).out now) (tick_step t now).tracker) (tells 1 Nothing Silent t)
+  pub tick-tells : (now : ℕ) → tick_of t now ≡ when◌then◌else◌ (state_rule t) (tells 0 (given_by (tick_step t now).out) (tick_line (tick_step t now).out now) (tick_step t now).tracker) (tells 1 Nothing Silent t)
   unfolding tick_of ticked answered refused
   tick-tells now = refl
 
-  pub capture-tells : capture_of t ≡ if◌then◌else◌ (state_rule t) (if◌then◌else◌ (takes t) (tells 0 Nothing (capture_line t.settings.raw_next t.one.last) (taken t)) (tells 0 Nothing Silent (wished t false))) (tells 1 Nothing Silent t)
+  pub capture-tells : capture_of t ≡ when◌then◌else◌ (state_rule t) (when◌then◌else◌ (takes t) (tells 0 Nothing (capture_line t.settings.raw_next t.one.last) (taken t)) (tells 0 Nothing Silent (wished t false))) (tells 1 Nothing Silent t)
   unfolding capture_of captured answered refused
   capture-tells = refl
 
-  pub capture-direct-tells : capture_direct_of t ≡ if◌then◌else◌ (state_rule t) (tells 0 Nothing Silent (after_capture_direct t)) (tells 1 Nothing Silent t)
+  pub capture-direct-tells : capture_direct_of t ≡ when◌then◌else◌ (state_rule t) (tells 0 Nothing Silent (after_capture_direct t)) (tells 1 Nothing Silent t)
   unfolding capture_direct_of answered refused
   capture-direct-tells = refl
 
-  pub raw-next-tells : (on : Bool) → raw_next_of t on ≡ if◌then◌else◌ (state_rule t) (tells 0 Nothing Silent (wished t on)) (tells 1 Nothing Silent t)
+  pub raw-next-tells : (on : Bool) → raw_next_of t on ≡ when◌then◌else◌ (state_rule t) (tells 0 Nothing Silent (wished t on)) (tells 1 Nothing Silent t)
   unfolding raw_next_of answered refused
   raw-next-tells on = refl
 
-  pub set-grab-tells : (ms : ℕ) → set_grab_of t ms ≡ if◌then◌else◌ (state_rule t) (tells 0 Nothing Silent (after_set_grab t ms)) (tells 1 Nothing Silent t)
+  pub set-grab-tells : (ms : ℕ) → set_grab_of t ms ≡ when◌then◌else◌ (state_rule t) (tells 0 Nothing Silent (after_set_grab t ms)) (tells 1 Nothing Silent t)
   unfolding set_grab_of answered refused
   set-grab-tells ms = refl
 
-  pub grab-tells : grab_of t ≡ if◌then◌else◌ (state_rule t) (record { ms = t.settings.grab_ms; answer = tells 0 Nothing Silent t }) (record { ms = 0; answer = tells 1 Nothing Silent t })
+  pub grab-tells : grab_of t ≡ when◌then◌else◌ (state_rule t) (record { ms = t.settings.grab_ms; answer = tells 0 Nothing Silent t }) (record { ms = 0; answer = tells 1 Nothing Silent t })
   unfolding grab_of answered refused
   grab-tells = refl
 
@@ -102,7 +102,7 @@ module _ (t : Tracker) where
 -- in use off the panel.
 
 abbrev pub number_in : Call → ℕ
-number_in (report now ev) = if◌then◌else◌ (all_on_panel (points_in_use ev)) 0 2
+number_in (report now ev) = when◌then◌else◌ (all_on_panel (points_in_use ev)) 0 2
 number_in (tick now) = 0
 number_in capture = 0
 number_in capture_direct = 0

@@ -12,7 +12,7 @@ use Rattle.gesture.specs.Lines.{line_at, gesture_line}
 use Rattle.gesture.specs.code.Codes.{coded_as, code_of, line_by_code, is_later_drag}
 
 pub line-by-code : (g : Gesture) (now : ℕ) → gesture_line g now ≡ line_by_code (code_of g).code (code_of g).number (code_of g).p now
-unfolding tests.if◌then◌else◌ line_at gesture_line coded_as code_of line_by_code
+unfolding tests.when◌then◌else◌ line_at gesture_line coded_as code_of line_by_code
 line-by-code (Down p) now = refl
 line-by-code (Tap p) now = refl
 line-by-code (LongPress p) now = refl

@@ -4,7 +4,7 @@
 -- refusal carries no other value (zeros, no gesture, no log line) and alters nothing." "Points in use: `p` for count 1; the
 -- first n of `pts` for 2 to 5. A count over 5 means 5. For count 0 none."
 use Rattle.std.specs.Prelude.{ℕ, Bool, false, List, [], ◌∷◌}
-use Rattle.panel.specs.Tests.{if◌then◌else◌, ◌=?◌}
+use Rattle.panel.specs.Tests.{when◌then◌else◌, ◌=?◌}
 use Rattle.panel.specs.Points.{all_on_panel, first_points}
 use Rattle.panel.specs.Refusals.{number_of}
 use Rattle.panel.specs.declared.points.Point.{Point}
@@ -41,14 +41,14 @@ given_by (Gives g) = Gave g
 -- The report.
 
 unfoldable pub points_in_use : Event → List Point
-points_in_use ev = if ev.points =? 1 then ev.p ∷ [] else first_points ev.points ev.pts
+points_in_use ev = when ev.points =? 1 then ev.p ∷ [] else first_points ev.points ev.pts
 
 unfoldable pub reported : Step → Bool → ℕ → Answer
 reported s locked now = answered (given_by s.out) (report_line s.out locked now) s.tracker
 
 unfoldable pub event_of : Tracker → Event → ℕ → Answer
 event_of t ev now =
-    if state_rule t then (if all_on_panel (points_in_use ev) then reported (report_step t ev now) (is_locked t.one.axis) now else refused Panel t)
+    when state_rule t then (when all_on_panel (points_in_use ev) then reported (report_step t ev now) (is_locked t.one.axis) now else refused Panel t)
     else refused State t
 
 -- The tick.
@@ -57,30 +57,30 @@ unfoldable pub ticked : Step → ℕ → Answer
 ticked s now = answered (given_by s.out) (tick_line s.out now) s.tracker
 
 unfoldable pub tick_of : Tracker → ℕ → Answer
-tick_of t now = if state_rule t then ticked (tick_step t now) now else refused State t
+tick_of t now = when state_rule t then ticked (tick_step t now) now else refused State t
 
 -- The captures.
 
 unfoldable pub captured : Tracker → Answer
 captured t =
-    if takes t then answered Nothing (capture_line t.settings.raw_next t.one.last) (taken t)
+    when takes t then answered Nothing (capture_line t.settings.raw_next t.one.last) (taken t)
     else answered Nothing Silent (wished t false)
 
 unfoldable pub capture_of : Tracker → Answer
-capture_of t = if state_rule t then captured t else refused State t
+capture_of t = when state_rule t then captured t else refused State t
 
 unfoldable pub capture_direct_of : Tracker → Answer
-capture_direct_of t = if state_rule t then answered Nothing Silent (after_capture_direct t) else refused State t
+capture_direct_of t = when state_rule t then answered Nothing Silent (after_capture_direct t) else refused State t
 
 -- The settings.
 
 unfoldable pub raw_next_of : Tracker → Bool → Answer
-raw_next_of t on = if state_rule t then answered Nothing Silent (wished t on) else refused State t
+raw_next_of t on = when state_rule t then answered Nothing Silent (wished t on) else refused State t
 
 unfoldable pub set_grab_of : Tracker → ℕ → Answer
-set_grab_of t ms = if state_rule t then answered Nothing Silent (after_set_grab t ms) else refused State t
+set_grab_of t ms = when state_rule t then answered Nothing Silent (after_set_grab t ms) else refused State t
 
 unfoldable pub grab_of : Tracker → GrabAnswer
 grab_of t =
-    if state_rule t then record { ms = t.settings.grab_ms; answer = answered Nothing Silent t }
+    when state_rule t then record { ms = t.settings.grab_ms; answer = answered Nothing Silent t }
     else record { ms = 0; answer = refused State t }

@@ -3,7 +3,7 @@
 -- "`capture`: takes and clears the raw wish always; if active and not captured sets captured and raw. `capture_direct`:
 -- clears the wish; if active sets captured and direct." "grab time (0 at the start, set to at most 5000)".
 use Rattle.std.specs.Prelude.{ℕ, min, Bool, false, not}
-use Rattle.panel.specs.Tests.{if◌then◌else◌, ◌and◌}
+use Rattle.panel.specs.Tests.{when◌then◌else◌, ◌and◌}
 use Rattle.fingers.specs.Thresholds.{grab_most}
 use Rattle.fingers.specs.Settings.{set_raw, set_grab}
 use Rattle.fingers.specs.Fields.{set_captured, set_direct}
@@ -33,7 +33,7 @@ unfoldable pub wished : Tracker → Bool → Tracker
 wished t on = settled t (set_raw t.settings on)
 
 unfoldable pub after_capture_direct : Tracker → Tracker
-after_capture_direct t = if is_active t.touch then owned t (set_direct t.app) else wished t false
+after_capture_direct t = when is_active t.touch then owned t (set_direct t.app) else wished t false
 
 unfoldable pub after_set_grab : Tracker → ℕ → Tracker
 after_set_grab t ms = settled t (set_grab t.settings (min ms grab_most))

@@ -1,53 +1,53 @@
 -- The letters of the log, by their ASCII numbers.
 use Rattle.std.specs.Prelude.{ℕ}
 
-abbrev pub ascii-D : ℕ
-ascii-D = 68
+abbrev pub ascii_D : ℕ
+ascii_D = 68
 
-abbrev pub ascii-T : ℕ
-ascii-T = 84
+abbrev pub ascii_T : ℕ
+ascii_T = 84
 
-abbrev pub ascii-L : ℕ
-ascii-L = 76
+abbrev pub ascii_L : ℕ
+ascii_L = 76
 
-abbrev pub ascii-M : ℕ
-ascii-M = 77
+abbrev pub ascii_M : ℕ
+ascii_M = 77
 
-abbrev pub ascii-G : ℕ
-ascii-G = 71
+abbrev pub ascii_G : ℕ
+ascii_G = 71
 
-abbrev pub ascii-U : ℕ
-ascii-U = 85
+abbrev pub ascii_U : ℕ
+ascii_U = 85
 
-abbrev pub ascii-less : ℕ
-ascii-less = 60
+abbrev pub ascii_less : ℕ
+ascii_less = 60
 
-abbrev pub ascii-greater : ℕ
-ascii-greater = 62
+abbrev pub ascii_greater : ℕ
+ascii_greater = 62
 
-abbrev pub ascii-caret : ℕ
-ascii-caret = 94
+abbrev pub ascii_caret : ℕ
+ascii_caret = 94
 
-abbrev pub ascii-v : ℕ
-ascii-v = 118
+abbrev pub ascii_v : ℕ
+ascii_v = 118
 
-abbrev pub ascii-C : ℕ
-ascii-C = 67
+abbrev pub ascii_C : ℕ
+ascii_C = 67
 
-abbrev pub ascii-W : ℕ
-ascii-W = 87
+abbrev pub ascii_W : ℕ
+ascii_W = 87
 
-abbrev pub ascii-K : ℕ
-ascii-K = 75
+abbrev pub ascii_K : ℕ
+ascii_K = 75
 
-abbrev pub ascii-k : ℕ
-ascii-k = 107
+abbrev pub ascii_k : ℕ
+ascii_k = 107
 
-abbrev pub ascii-E : ℕ
-ascii-E = 69
+abbrev pub ascii_E : ℕ
+ascii_E = 69
 
-abbrev pub ascii-N : ℕ
-ascii-N = 78
+abbrev pub ascii_N : ℕ
+ascii_N = 78
 
-abbrev pub ascii-c : ℕ
-ascii-c = 99
+abbrev pub ascii_c : ℕ
+ascii_c = 99

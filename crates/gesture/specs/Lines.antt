@@ -6,7 +6,7 @@
 -- no axis was locked before. Nothing at a one-finger release: N, its note, p1; a new residual: N, 250, its point. A
 -- `capture` that takes: c, argument raw, time 0, last point."
 use Rattle.std.specs.Prelude.{ℕ, Bool, true, false}
-use Rattle.panel.specs.Tests.{if◌then◌else◌, ◌and◌, ◌=?◌, bit}
+use Rattle.panel.specs.Tests.{when◌then◌else◌, ◌and◌, ◌=?◌, bit}
 use Rattle.panel.specs.declared.points.Point.{Point}
 use Rattle.panel.specs.declared.axes.AxisLock.{AxisLock}
 use Rattle.panel.specs.declared.axes.AxisLock.TheVariants.{Free, On}
@@ -15,7 +15,7 @@ use Rattle.fingers.specs.declared.gestures.Gesture.{Gesture}
 use Rattle.fingers.specs.declared.gestures.Note.{Note}
 use Rattle.fingers.specs.declared.gestures.Outcome.{Outcome}
 use Rattle.fingers.specs.declared.gestures.Outcome.TheVariants.{Quiet, Noted, Gives}
-use Rattle.gesture.specs.Letters.{ascii-D, ascii-T, ascii-L, ascii-M, ascii-G, ascii-U, ascii-less, ascii-greater, ascii-caret, ascii-v, ascii-C, ascii-W, ascii-K, ascii-k, ascii-E, ascii-N, ascii-c}
+use Rattle.gesture.specs.Letters.{ascii_D, ascii_T, ascii_L, ascii_M, ascii_G, ascii_U, ascii_less, ascii_greater, ascii_caret, ascii_v, ascii_C, ascii_W, ascii_K, ascii_k, ascii_E, ascii_N, ascii_c}
 use Rattle.gesture.specs.Trackers.{origin}
 use Rattle.gesture.specs.declared.lines.Log.{Log}
 use Rattle.gesture.specs.declared.lines.Log.TheVariants.{Silent, Logged}
@@ -30,25 +30,25 @@ at x y = record { x = x; y = y }
 unfoldable pub line_at : ℕ → ℕ → ℕ → ℕ → ℕ → ℕ → ℕ → Log
 line_at place a b c d e now =
     -- Down, Tap, LongPress
-    if place =? 0 then line ascii-D 0 (at a b) now
-    else if place =? 1 then line ascii-T 0 (at a b) now
-    else if place =? 2 then line ascii-L 0 (at a b) now
+    when place =? 0 then line ascii_D 0 (at a b) now
+    else when place =? 1 then line ascii_T 0 (at a b) now
+    else when place =? 2 then line ascii_L 0 (at a b) now
     -- Drag, Grab, Up
-    else if place =? 3 then line ascii-M e (at c d) now
-    else if place =? 4 then line ascii-G 0 (at a b) now
-    else if place =? 5 then line ascii-U 0 (at a b) now
+    else when place =? 3 then line ascii_M e (at c d) now
+    else when place =? 4 then line ascii_G 0 (at a b) now
+    else when place =? 5 then line ascii_U 0 (at a b) now
     -- the swipes left, right, up, down
-    else if place =? 6 then line ascii-less 0 origin now
-    else if place =? 7 then line ascii-greater 0 origin now
-    else if place =? 8 then line ascii-caret 0 origin now
-    else if place =? 9 then line ascii-v 0 origin now
+    else when place =? 6 then line ascii_less 0 origin now
+    else when place =? 7 then line ascii_greater 0 origin now
+    else when place =? 8 then line ascii_caret 0 origin now
+    else when place =? 9 then line ascii_v 0 origin now
     -- Cancel, MultiSwipeDown, KeyDown, KeyUp
-    else if place =? 10 then line ascii-C 0 origin now
-    else if place =? 11 then line ascii-W a origin now
-    else if place =? 12 then line ascii-K a origin now
-    else if place =? 13 then line ascii-k a origin now
+    else when place =? 10 then line ascii_C 0 origin now
+    else when place =? 11 then line ascii_W a origin now
+    else when place =? 12 then line ascii_K a origin now
+    else when place =? 13 then line ascii_k a origin now
     -- PinchEnd
-    else if place =? 16 then line ascii-E a origin now
+    else when place =? 16 then line ascii_E a origin now
     else Silent
 
 unfoldable pub gesture_line : Gesture → ℕ → Log
@@ -60,11 +60,11 @@ is_locked (On a) = true
 
 -- "a Drag only if no axis was locked before": locked is whether one was before the call
 unfoldable pub report_gesture_line : Gesture → Bool → ℕ → Log
-report_gesture_line g locked now = if is_drag g and locked then Silent else gesture_line g now
+report_gesture_line g locked now = when is_drag g and locked then Silent else gesture_line g now
 
 -- "N, its note", and its point
 unfoldable pub note_line : Note → ℕ → Log
-note_line note now = line ascii-N note.number note.p now
+note_line note now = line ascii_N note.number note.p now
 
 unfoldable pub report_line : Outcome → Bool → ℕ → Log
 report_line Quiet locked now = Silent
@@ -77,4 +77,4 @@ tick_line (Noted note) now = note_line note now
 tick_line (Gives g) now = gesture_line g now
 
 unfoldable pub capture_line : Bool → Point → Log
-capture_line raw last = line ascii-c (bit raw) last 0
+capture_line raw last = line ascii_c (bit raw) last 0

@@ -11,7 +11,7 @@
 -- "Each report with two or more clears residual. Centroid: sums divided by n, rounded down. If a one-finger touch was on,
 -- the answer is Cancel, multi starts, and with two fingers a new pair." "A count over 5 means 5."
 use Rattle.std.specs.Prelude.{ℕ, ◌-◌, Bool, false, List, get_or}
-use Rattle.panel.specs.Tests.{if◌then◌else◌, ◌<?◌, ◌=?◌}
+use Rattle.panel.specs.Tests.{when◌then◌else◌, ◌<?◌, ◌=?◌}
 use Rattle.panel.specs.Points.{first_points, fingers}
 use Rattle.panel.specs.Centroids.{middle}
 use Rattle.panel.specs.declared.points.Point.{Point}
@@ -75,7 +75,7 @@ unfoldable pub new_touch : Tracker → Point → ℕ → Step
 new_touch t p now = step (Gives (gesture.Down p)) (touched t (Down p now) (reset p) untaken Never)
 
 unfoldable pub touch_down : Tracker → Point → ℕ → Step
-touch_down t p now = if is_last_finger t.multi_end now then residual_touch t p else new_touch t p now
+touch_down t p now = when is_last_finger t.multi_end now then residual_touch t p else new_touch t p now
 
 -- a one-finger touch goes on
 unfoldable pub goes_on : OneStep → Touch → Tracker → Step
@@ -123,9 +123,9 @@ more_of t n pts now = several (more t.touch n (middle (first_points n pts)) now)
 
 unfoldable pub fingers_of : Tracker → Event → ℕ → Step
 fingers_of t ev now =
-    if ev.points =? 0 then all_up t now
-    else if ev.points =? 1 then one_finger t.touch t ev.p now
-    else if ev.points =? 2 then two_of t ev.pts now
+    when ev.points =? 0 then all_up t now
+    else when ev.points =? 1 then one_finger t.touch t ev.p now
+    else when ev.points =? 2 then two_of t ev.pts now
     else more_of t (fingers ev.points) ev.pts now
 
 -- The report.

@@ -8,13 +8,13 @@ use crate::record::Tracker;
 use fingers::{Gesture, Outcome};
 use panel::Refusal;
 
-#[derive(Drop)]
+#[derive(Clone, Copy)]
 pub enum Given {
     Nothing,
     Gave(Gesture),
 }
 
-#[derive(Drop)]
+#[derive(Clone, Copy)]
 pub struct Answer {
     // 0, or why the call was refused.
     pub refusal: u8,
@@ -24,7 +24,7 @@ pub struct Answer {
 }
 
 // The grab time beside the answer: 0 for a refused call.
-#[derive(Drop)]
+#[derive(Clone, Copy)]
 pub struct GrabAnswer {
     pub ms: u16,
     pub answer: Answer,

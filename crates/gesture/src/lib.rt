@@ -1,6 +1,8 @@
 // The tracker of touches: reports and ticks go in, gestures and log lines come out, the tracker with them, by
 // value. Every call looks at the tracker's state rule first and refuses a tracker that breaks it; a refused
 // call gives back the tracker as it came.
+#![tactic(auto)]
+
 mod answers;
 mod calls;
 mod captures;

@@ -8,7 +8,7 @@ ghost use Rattle.gesture.specs.code.Codes.{coded_as, code_of, line_by_code, is_l
 use fingers::{Gesture, Note, One, Outcome};
 use panel::{AxisLock, Point};
 
-#[derive(Drop)]
+#[derive(Clone, Copy)]
 pub struct Line {
     pub letter: u8,
     pub argument: u8,
@@ -16,14 +16,14 @@ pub struct Line {
     pub time: u64,
 }
 
-#[derive(Drop)]
+#[derive(Clone, Copy)]
 pub enum Log {
     Silent,
     Logged(Line),
 }
 
 // A gesture's code number, its small number and its point, as far as it has them.
-#[derive(Drop)]
+#[derive(Clone, Copy)]
 struct Coded {
     code: u8,
     number: u8,

@@ -9,7 +9,7 @@ use crate::record::Tracker;
 use panel::Event;
 
 // Which call it is, with its numbers.
-#[derive(Drop)]
+#[derive(Clone, Copy)]
 pub enum CallKind {
     // A report of the controller at a time.
     Report(u64),
@@ -22,7 +22,7 @@ pub enum CallKind {
 
 // A call on a tracker. `event` is the report of a Report, and is not looked at elsewhere: a variant holds no list, and
 // a report has one.
-#[derive(Drop)]
+#[derive(Clone, Copy)]
 pub struct Call {
     pub kind: CallKind,
     pub event: Event,

@@ -8,7 +8,7 @@ ghost use Rattle.gesture.specs.Trackers.{fresh_tracker, is_active, step, touched
 use fingers::{App, Keys, Multi, One, Outcome, Pairing, Settings};
 use panel::Point;
 
-#[derive(Drop)]
+#[derive(Clone, Copy)]
 pub enum Touch {
     Idle,
     // One finger: where and when it went down.
@@ -20,14 +20,14 @@ pub enum Touch {
 }
 
 // End time of the last multi-finger touch, until a touch-down uses it up.
-#[derive(Drop)]
+#[derive(Clone, Copy)]
 pub enum MultiEnd {
     Never,
     At(u64),
 }
 
 // The order of the fields, here and in their parts, is for speed: docs/BENCH.md.
-#[derive(Drop)]
+#[derive(Clone, Copy)]
 pub struct Tracker {
     pub settings: Settings,
     pub touch: Touch,
@@ -38,7 +38,7 @@ pub struct Tracker {
 }
 
 // What a call comes to, and the tracker that it leaves.
-#[derive(Drop)]
+#[derive(Clone, Copy)]
 pub struct Step {
     pub out: Outcome,
     pub tracker: Tracker,

@@ -2,12 +2,12 @@
 -- proofs/Table.antt shows that the lines by them are `gesture_line`, which is the one to hold against document 01.
 use Rattle.std.specs.Prelude.{ℕ, Bool}
 use Rattle.panel.specs.Axes.{axis_number}
-use Rattle.panel.specs.Tests.{if◌then◌else◌, ◌and◌, ◌=?◌, bit}
+use Rattle.panel.specs.Tests.{when◌then◌else◌, ◌and◌, ◌=?◌, bit}
 use Rattle.panel.specs.declared.points.Point.{Point}
 use Rattle.fingers.specs.Gestures.{drag}
 use Rattle.fingers.specs.declared.gestures.Gesture.{Gesture}
 use Rattle.fingers.specs.declared.gestures.Gesture.TheVariants.{Down, Tap, LongPress, Drag, Grab, Up, SwipeLeft, SwipeRight, SwipeUp, SwipeDown, Cancel, MultiSwipeDown, KeyDown, KeyUp, Move, Pinch, PinchEnd}
-use Rattle.gesture.specs.Letters.{ascii-D, ascii-T, ascii-L, ascii-M, ascii-G, ascii-U, ascii-less, ascii-greater, ascii-caret, ascii-v, ascii-C, ascii-W, ascii-K, ascii-k, ascii-E}
+use Rattle.gesture.specs.Letters.{ascii_D, ascii_T, ascii_L, ascii_M, ascii_G, ascii_U, ascii_less, ascii_greater, ascii_caret, ascii_v, ascii_C, ascii_W, ascii_K, ascii_k, ascii_E}
 use Rattle.gesture.specs.Trackers.{origin}
 use Rattle.gesture.specs.Lines.{line}
 use Rattle.gesture.specs.declared.lines.Coded.{Coded}
@@ -39,21 +39,21 @@ code_of (PinchEnd released) = coded_as 16 (bit released) origin
 
 unfoldable pub line_by_code : ℕ → ℕ → Point → ℕ → Log
 line_by_code code number p now =
-    if code =? 0 then line ascii-D 0 p now
-    else if code =? 1 then line ascii-T 0 p now
-    else if code =? 2 then line ascii-L 0 p now
-    else if code =? drag then line ascii-M number p now
-    else if code =? 4 then line ascii-G 0 p now
-    else if code =? 5 then line ascii-U 0 p now
-    else if code =? 6 then line ascii-less 0 origin now
-    else if code =? 7 then line ascii-greater 0 origin now
-    else if code =? 8 then line ascii-caret 0 origin now
-    else if code =? 9 then line ascii-v 0 origin now
-    else if code =? 10 then line ascii-C 0 origin now
-    else if code =? 11 then line ascii-W number origin now
-    else if code =? 12 then line ascii-K number origin now
-    else if code =? 13 then line ascii-k number origin now
-    else if code =? 16 then line ascii-E number origin now
+    when code =? 0 then line ascii_D 0 p now
+    else when code =? 1 then line ascii_T 0 p now
+    else when code =? 2 then line ascii_L 0 p now
+    else when code =? drag then line ascii_M number p now
+    else when code =? 4 then line ascii_G 0 p now
+    else when code =? 5 then line ascii_U 0 p now
+    else when code =? 6 then line ascii_less 0 origin now
+    else when code =? 7 then line ascii_greater 0 origin now
+    else when code =? 8 then line ascii_caret 0 origin now
+    else when code =? 9 then line ascii_v 0 origin now
+    else when code =? 10 then line ascii_C 0 origin now
+    else when code =? 11 then line ascii_W number origin now
+    else when code =? 12 then line ascii_K number origin now
+    else when code =? 13 then line ascii_k number origin now
+    else when code =? 16 then line ascii_E number origin now
     else Silent
 
 -- a later Drag of a touch whose axis is locked
