@@ -1,5 +1,5 @@
 -- How large the answers are: where a point lands that `apply16` answers, and how far a tap then is from its target. So
--- 64 distances have a sum in u32 (`tenths-of-miss` of Tenths.antt), and no sum of `resid` is WIDE. Assumes nothing.
+-- 64 distances have a sum in u32 (`tenths-of-miss` of Telling.antt), and no sum of `resid` is WIDE. Assumes nothing.
 use Prim.Native.Nat.{ℕ, ◌^◌, ◌≤◌, ◌<◌}
 use mathlib.Core.Path.{◌≡◌, refl, ◌∙◌}
 use mathlib.Core.Bool.{Bool, true, false}
@@ -10,7 +10,7 @@ use lib.Signed.{mag, nat_abs-le}
 use borrow.Author.Tests.{ltb-true}
 use Rattle.panel.proofs.Follow.{if-true, and-true}
 use Rattle.panel.proofs.Laws.{and_left, and_right}
-use Rattle.panel.specs.Tests.{if◌then◌else◌}
+use Rattle.panel.specs.Tests.{when◌then◌else◌}
 use Rattle.panel.specs.declared.refusals.Refusal.TheVariants as Refusal
 use Rattle.calmap.specs.Distances.{squared, gap_of}
 use Rattle.calmap.specs.Maps.{line, line_fits, apply_of}
@@ -39,8 +39,8 @@ pub record Lands (s : Spot) : Type 0 where
   pub x : mag s.0.0 < 2 ^ 19
   pub y : mag s.1.0 < 2 ^ 19
 
-landed : (b : Bool) (s t : Spot) → (b ≡ true → Lands s) → if◌then◌else◌ b (Apply.Answered s) (Apply.Refused Refusal.Wide) ≡ Apply.Answered t → Lands t
-unfolding if◌then◌else◌
+landed : (b : Bool) (s t : Spot) → (b ≡ true → Lands s) → when◌then◌else◌ b (Apply.Answered s) (Apply.Refused Refusal.Wide) ≡ Apply.Answered t → Lands t
+unfolding when◌then◌else◌
 landed true s t f e = let q : s ≡ t = cc in rw q at (f refl)
 landed false s t f e = let z : ◌≡◌ {A = ℕ} 0 1 = cc in absurd (omega arith)
 
@@ -65,8 +65,8 @@ squared-reach dx dy hx hy =
     let y = nat_abs-le dy.0 (ltb-true _ _ hy) in
     omega (arith, mul-le-mul x x, mul-le-mul y y)
 
-gap-at-most : (b : Bool) (n k : ℕ) → n ≤ k → square_in (if◌then◌else◌ b (Gap.Squared n) Gap.Wide) ≤ k
-unfolding if◌then◌else◌
+gap-at-most : (b : Bool) (n k : ℕ) → n ≤ k → square_in (when◌then◌else◌ b (Gap.Squared n) Gap.Wide) ≤ k
+unfolding when◌then◌else◌
 gap-at-most true n k h = h
 gap-at-most false n k h = omega arith
 

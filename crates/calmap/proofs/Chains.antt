@@ -7,7 +7,7 @@ use native.Mathlib.Omega.{arith}
 use lib.IntN.{ℤ, pos}
 use Rattle.panel.proofs.Follow.{if-true, if-false}
 use Rattle.panel.specs.Sizes.{width, height}
-use Rattle.panel.specs.Tests.{if◌then◌else◌, ◌and◌}
+use Rattle.panel.specs.Tests.{when◌then◌else◌, ◌and◌}
 use Rattle.panel.specs.declared.points.Point.{Point}
 use Rattle.panel.specs.declared.refusals.Refusal.TheVariants as Refusal
 use Rattle.calmap.specs.Maps.{line, line_fits, apply_of}
@@ -16,7 +16,6 @@ use Rattle.calmap.specs.Sizes.{half}
 use Rattle.calmap.specs.Units.{whole_steps, ◌·◌, ◌⊞◌, steps_fit, sixteenths_fit}
 use Rattle.calmap.specs.code.Checked.{narrow_of, across_of, plus_of, line_of, nudge_of, both_fit, map_fits, spot_of, placed_of}
 use Rattle.calmap.specs.declared.checked.Across.{Across}
-use Rattle.calmap.specs.declared.checked.Across.TheVariants as Across
 use Rattle.calmap.specs.declared.checked.Narrow.{Narrow}
 use Rattle.calmap.specs.declared.checked.Narrow.TheVariants.{In, Wide}
 use Rattle.calmap.specs.declared.mapping.ApplyAnswer.TheVariants as Apply
@@ -27,7 +26,7 @@ use Rattle.calmap.specs.declared.units.Sixteenths.{Sixteenths}
 
 -- q, if all that came before it and q itself are in i32
 abbrev held : Bool → Q16 → Narrow
-held b q = if◌then◌else◌ b (In q) Wide
+held b q = when◌then◌else◌ b (In q) Wide
 
 pub narrow-in : (q : Q16) → steps_fit q ≡ true → In q ≡ narrow_of q
 unfolding narrow_of
@@ -42,19 +41,19 @@ unfolding narrow_of
 narrow-held q = refl
 
 held_fits : (b : Bool) (q t : Q16) → held b q ≡ In t → b ≡ true
-unfolding if◌then◌else◌
+unfolding when◌then◌else◌
 held_fits true q t e = refl
 held_fits false q t e = cc
 
 held-leaves : (b : Bool) (q : Q16) → held b q ≡ Wide → b ≡ false
-unfolding if◌then◌else◌
+unfolding when◌then◌else◌
 held-leaves true q e = cc
 held-leaves false q e = refl
 
 -- Differences: where there is one, it is s itself.
 
 abbrev kept : Bool → Sixteenths → Across
-kept b s = if◌then◌else◌ b (Across.In s) Across.Wide
+kept b s = when◌then◌else◌ b (Across.In s) Across.Wide
 
 pub across-in : (s : Sixteenths) → sixteenths_fit s ≡ true → Across.In s ≡ across_of s
 unfolding across_of
@@ -65,17 +64,17 @@ unfolding across_of
 across-out s h = sym (if-false _ _ _ h)
 
 kept-fits : (b : Bool) (s t : Sixteenths) → kept b s ≡ Across.In t → b ≡ true
-unfolding if◌then◌else◌
+unfolding when◌then◌else◌
 kept-fits true s t e = refl
 kept-fits false s t e = cc
 
 kept-is : (b : Bool) (s t : Sixteenths) → kept b s ≡ Across.In t → s ≡ t
-unfolding if◌then◌else◌
+unfolding when◌then◌else◌
 kept-is true s t e = cc
 kept-is false s t e = let n : ◌≡◌ {A = ℕ} 0 1 = cc in absurd (omega arith)
 
 kept_leaves : (b : Bool) (s : Sixteenths) → kept b s ≡ Across.Wide → b ≡ false
-unfolding if◌then◌else◌
+unfolding when◌then◌else◌
 kept_leaves true s e = cc
 kept_leaves false s e = refl
 
@@ -94,13 +93,13 @@ across-leaves s e = kept_leaves (sixteenths_fit s) s e
 -- Sums.
 
 plus-held : (a b : Bool) (y z : Q16) → plus_of (held a y) (held b z) ≡ held (◌and◌ a (◌and◌ b (steps_fit (y ⊞ z)))) (y ⊞ z)
-unfolding plus_of narrow_of if◌then◌else◌ ◌and◌
+unfolding plus_of narrow_of when◌then◌else◌ ◌and◌
 plus-held true true y z = refl
 plus-held true false y z = refl
 plus-held false b y z = refl
 
 plus-in : (a : Bool) (y z : Q16) → plus_of (held a y) (In z) ≡ held (◌and◌ a (steps_fit (y ⊞ z))) (y ⊞ z)
-unfolding plus_of narrow_of if◌then◌else◌ ◌and◌
+unfolding plus_of narrow_of when◌then◌else◌ ◌and◌
 plus-in true y z = refl
 plus-in false y z = refl
 
@@ -134,8 +133,8 @@ pub not-applied : (c : Cal) (x y : ℤ) → map_fits c x y ≡ false → Apply.R
 unfolding map_fits both_fit apply_of
 not-applied c x y h = sym (if-false _ _ _ h)
 
-placed-held : (p : Point) (a b : Bool) (u v : Q16) → placed_of p (held a u) (held b v) ≡ if◌then◌else◌ (◌and◌ a b) (Screen.Answered (record { x = moved (width - 1) p.x u; y = moved (height - 1) p.y v })) (Screen.Refused Refusal.Wide)
-unfolding placed_of if◌then◌else◌ ◌and◌
+placed-held : (p : Point) (a b : Bool) (u v : Q16) → placed_of p (held a u) (held b v) ≡ when◌then◌else◌ (◌and◌ a b) (Screen.Answered (record { x = moved (width - 1) p.x u; y = moved (height - 1) p.y v })) (Screen.Refused Refusal.Wide)
+unfolding placed_of when◌then◌else◌ ◌and◌
 placed-held p true true u v = refl
 placed-held p true false u v = refl
 placed-held p false b u v = refl

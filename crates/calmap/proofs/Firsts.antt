@@ -8,7 +8,7 @@ use lib.ListN.{length, take, length-take}
 use borrow.Author.Tests.{le-ltb, lt-ltb}
 use Rattle.panel.proofs.Follow.{if-true, if-false}
 use Rattle.panel.specs.Points.{all_on_panel}
-use Rattle.panel.specs.Tests.{if◌then◌else◌, ◌<?◌}
+use Rattle.panel.specs.Tests.{when◌then◌else◌, ◌<?◌}
 use Rattle.panel.specs.declared.points.Point.{Point}
 use Rattle.panel.specs.declared.refusals.Refusal.TheVariants as Refusal
 use Rattle.calmap.specs.Checks.{verdict_of, check_of, check_first}
@@ -45,6 +45,6 @@ module _ (c : Cal) (n : ℕ) (ps : List Point) where
   unfolding check_first
   check-taken h = if-false _ _ _ (le-ltb _ _ h)
 
-  pub check-first : n ≤ longest → check_first c n ps ≡ if◌then◌else◌ (all_on_panel (take n ps)) (Check.Answered (verdict_of c (take n ps))) (Check.Refused Refusal.Target)
+  pub check-first : n ≤ longest → check_first c n ps ≡ when◌then◌else◌ (all_on_panel (take n ps)) (Check.Answered (verdict_of c (take n ps))) (Check.Refused Refusal.Target)
   unfolding check_first check_of
   check-first h = if-false _ _ _ (le-ltb _ _ h) ∙ if-false _ _ _ (not-long n ps h)

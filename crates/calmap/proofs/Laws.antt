@@ -22,7 +22,7 @@ use Rattle.calmap.proofs.Bounds as Bounds
 use Rattle.calmap.proofs.Floors as Floors
 use Rattle.calmap.proofs.Rooted as Rooted
 use Rattle.calmap.proofs.Signed.{in32-yes}
-use Rattle.calmap.proofs.Tenths as Telling
+use Rattle.calmap.proofs.Telling as Telling
 
 -- Squares.
 

@@ -13,7 +13,7 @@ mod Slight
 mod Floors
 mod Rooted
 mod Digits
-mod Tenths
+mod Telling
 mod Walking
 mod Judging
 mod Cases

@@ -13,7 +13,7 @@ use Rattle.panel.proofs.Promises.{one_answer}
 use Rattle.panel.specs.Points.{all_on_panel}
 use Rattle.panel.specs.Refusals.{Told}
 use Rattle.panel.specs.Sizes.{width, height}
-use Rattle.panel.specs.Tests.{if◌then◌else◌, ◌and◌, ◌<?◌}
+use Rattle.panel.specs.Tests.{when◌then◌else◌, ◌and◌, ◌<?◌}
 use Rattle.panel.specs.declared.points.Point.{Point}
 use Rattle.calmap.specs.Checks.{none, judged, scale_holds, all_stay, verdict_of, check_of, check_first, told_check}
 use Rattle.calmap.specs.Distances.{squared, gap_of, IsTenths, tenths_of, in_tenths, dist10_of, told_dist10}
@@ -44,14 +44,14 @@ use Rattle.calmap.specs.declared.units.Tap.{Tap}
 use Rattle.calmap.specs.declared.units.Tenths.{Tenths}
 use Rattle.calmap.proofs.Bounds.{squared-reach}
 use Rattle.calmap.proofs.Rooted.{root_is}
-use Rattle.calmap.proofs.Tenths.{tenths-are}
+use Rattle.calmap.proofs.Telling.{tenths-are}
 
 abbrev tells : {A : Type 0} → ℕ → A → Told A
 tells n a = record { number = n; value = a }
 
 -- WIDE, number 3 and zeros, exactly if x or y is outside i16, or a product or partial sum leaves i32.
 pub apply16-tells : (c : Cal) (x y : ℤ) → told_apply (apply_of c x y)
-    ≡ if◌then◌else◌ (◌and◌ (in16 x) (◌and◌ (in16 y) (◌and◌ (line_fits x c.c0 c.c1 c.c2 x y) (line_fits y c.c3 c.c4 c.c5 x y))))
+    ≡ when◌then◌else◌ (◌and◌ (in16 x) (◌and◌ (in16 y) (◌and◌ (line_fits x c.c0 c.c1 c.c2 x y) (line_fits y c.c3 c.c4 c.c5 x y))))
     (tells 0 (spot (down_twelve (line x c.c0 c.c1 c.c2 x y)) (down_twelve (line y c.c3 c.c4 c.c5 x y))))
     (tells 3 (spot (sixteenths (pos 0)) (sixteenths (pos 0))))
 unfolding apply_of
@@ -59,7 +59,7 @@ apply16-tells c x y = if-of told_apply _ _ _
 
 -- WIDE exactly if a product or partial sum leaves i32; never for where the point is.
 pub screen-tells : (c : Cal) (p : Point) → told_screen (screen_of c p)
-    ≡ if◌then◌else◌ (◌and◌ (nudge_fits c.c0 c.c1 c.c2 (pos p.x) (pos p.y)) (nudge_fits c.c3 c.c4 c.c5 (pos p.x) (pos p.y)))
+    ≡ when◌then◌else◌ (◌and◌ (nudge_fits c.c0 c.c1 c.c2 (pos p.x) (pos p.y)) (nudge_fits c.c3 c.c4 c.c5 (pos p.x) (pos p.y)))
     (tells 0 (record { x = moved (width - 1) p.x (nudge c.c0 c.c1 c.c2 (pos p.x) (pos p.y)); y = moved (height - 1) p.y (nudge c.c3 c.c4 c.c5 (pos p.x) (pos p.y)) }))
     (tells 3 (record { x = 0; y = 0 }))
 unfolding screen_of
@@ -71,14 +71,14 @@ isqrt-tells v h = root_is v h
 
 -- WIDE exactly if a coordinate difference leaves i32.
 pub dist10-tells : (ax ay bx by : Sixteenths) → told_dist10 (dist10_of ax ay bx by)
-    ≡ if◌then◌else◌ (◌and◌ (sixteenths_fit (ax ⊟ bx)) (sixteenths_fit (ay ⊟ by))) (tells 0 (tenths_of (squared (ax ⊟ bx) (ay ⊟ by)))) (tells 3 (tenths 0))
+    ≡ when◌then◌else◌ (◌and◌ (sixteenths_fit (ax ⊟ bx)) (sixteenths_fit (ay ⊟ by))) (tells 0 (tenths_of (squared (ax ⊟ bx) (ay ⊟ by)))) (tells 3 (tenths 0))
 unfolding gap_of
 dist10-tells ax ay bx by = if-of (λ g. told_dist10 (in_tenths tenths_of g)) _ _ _
 
 -- What it tells is the largest t with (16t) squared at most 100 times the squared distance, whatever that is: it is at most
 -- 2^63 (`squared-reach`).
-measured : (b : Bool) (d2 : ℕ) (t : Tenths) → (b ≡ true → d2 < 2 ^ 64) → in_tenths tenths_of (if◌then◌else◌ b (Squared d2) Wide) ≡ Dist10.Answered t → IsTenths t d2
-unfolding if◌then◌else◌
+measured : (b : Bool) (d2 : ℕ) (t : Tenths) → (b ≡ true → d2 < 2 ^ 64) → in_tenths tenths_of (when◌then◌else◌ b (Squared d2) Wide) ≡ Dist10.Answered t → IsTenths t d2
+unfolding when◌then◌else◌
 measured true d2 t f e = let q : tenths_of d2 ≡ t = cc in subst (λ (x : Tenths). IsTenths x d2) q (tenths-are d2 (f refl))
 measured false d2 t f e = let z : ◌≡◌ {A = ℕ} 0 1 = cc in absurd (omega arith)
 
@@ -101,26 +101,26 @@ spread-told : (ms : Misses) → told_resid (spread_by tenths_of ms) ≡ told_mis
 spread-told (known ds) = refl
 spread-told wide = refl
 
-pub resid-tells : (c : Cal) (ps : List Aim) → told_resid (resid_of c ps) ≡ if◌then◌else◌ (longest <? length ps) (tells 4 nowhere) (told_misses (misses_of c ps))
+pub resid-tells : (c : Cal) (ps : List Aim) → told_resid (resid_of c ps) ≡ when◌then◌else◌ (longest <? length ps) (tells 4 nowhere) (told_misses (misses_of c ps))
 unfolding resid_by
-resid-tells c ps = if-of told_resid _ _ _ ∙ ap (if◌then◌else◌ (longest <? length ps) (tells 4 nowhere)) (spread-told (misses_of c ps))
+resid-tells c ps = if-of told_resid _ _ _ ∙ ap (when◌then◌else◌ (longest <? length ps) (tells 4 nowhere)) (spread-told (misses_of c ps))
 
 -- The same over the first n of an array of 64.
-pub resid-of-tells : (c : Cal) (n : ℕ) (ps : List Aim) → told_resid (resid_first c n ps) ≡ if◌then◌else◌ (longest <? n) (tells 4 nowhere) (told_resid (resid_of c (take n ps)))
+pub resid-of-tells : (c : Cal) (n : ℕ) (ps : List Aim) → told_resid (resid_first c n ps) ≡ when◌then◌else◌ (longest <? n) (tells 4 nowhere) (told_resid (resid_of c (take n ps)))
 unfolding resid_first_by
 resid-of-tells c n ps = if-of told_resid _ _ _
 
 -- LONG, number 4, exactly for more than 64 targets; else TARGET, number 5, exactly for one off the panel; else the verdict.
 pub check-tells : (c : Cal) (ps : List Point) → told_check (check_of c ps)
-    ≡ if◌then◌else◌ (longest <? length ps) (tells 4 none) (if◌then◌else◌ (all_on_panel ps) (tells 0 (judged (verdict_of c ps))) (tells 5 none))
+    ≡ when◌then◌else◌ (longest <? length ps) (tells 4 none) (when◌then◌else◌ (all_on_panel ps) (tells 0 (judged (verdict_of c ps))) (tells 5 none))
 unfolding check_of
-check-tells c ps = if-of told_check _ _ _ ∙ ap (if◌then◌else◌ (longest <? length ps) (tells 4 none)) (if-of told_check _ _ _)
+check-tells c ps = if-of told_check _ _ _ ∙ ap (when◌then◌else◌ (longest <? length ps) (tells 4 none)) (if-of told_check _ _ _)
 
-pub verdict-is : (c : Cal) (ps : List Point) → verdict_of c ps ≡ if◌then◌else◌ (scale_holds c) (if◌then◌else◌ (all_stay c ps) Pass Shift) Scale
+pub verdict-is : (c : Cal) (ps : List Point) → verdict_of c ps ≡ when◌then◌else◌ (scale_holds c) (when◌then◌else◌ (all_stay c ps) Pass Shift) Scale
 unfolding verdict_of
 verdict-is c ps = refl
 
-pub check-of-tells : (c : Cal) (n : ℕ) (ps : List Point) → told_check (check_first c n ps) ≡ if◌then◌else◌ (longest <? n) (tells 4 none) (told_check (check_of c (take n ps)))
+pub check-of-tells : (c : Cal) (n : ℕ) (ps : List Point) → told_check (check_first c n ps) ≡ when◌then◌else◌ (longest <? n) (tells 4 none) (told_check (check_of c (take n ps)))
 unfolding check_first
 check-of-tells c n ps = if-of told_check _ _ _
 

@@ -5,7 +5,7 @@ use mathlib.Core.Bool.{Bool, true, false, not}
 use native.Mathlib.Nat.{le_trans, lt_of_lt_of_le, lt_of_le_of_lt, zero-lt-suc, lt_of_not-le, not-le_of_lt, le_antisymm, mul-add, add-mul, mul_assoc, mul_comm, mul-le-mul, div-lt_iff_lt-mul, div-mul-le_self, pow-suc}
 use native.Mathlib.Omega.{arith}
 use lib.Dec.{T, leb, leb→le, nleb→lt}
-use Rattle.panel.specs.Tests.{if◌then◌else◌}
+use Rattle.panel.specs.Tests.{when◌then◌else◌}
 use Rattle.calmap.specs.Roots.{IsRoot, digit, root_by, root_of}
 
 -- Squares.
@@ -32,8 +32,8 @@ one-root {r} {s} {v} p q = le_antisymm (no_more r s v p q) (no_more s r v q p)
 
 -- By digits.
 
-pick : (b : Bool) (r v : ℕ) → (T b → (r + 1) * (r + 1) ≤ v) → (T (not b) → v < (r + 1) * (r + 1)) → r * r ≤ v → v < (r + 2) * (r + 2) → IsRoot (if◌then◌else◌ b (r + 1) r) v
-unfolding if◌then◌else◌
+pick : (b : Bool) (r v : ℕ) → (T b → (r + 1) * (r + 1) ≤ v) → (T (not b) → v < (r + 1) * (r + 1)) → r * r ≤ v → v < (r + 2) * (r + 2) → IsRoot (when◌then◌else◌ b (r + 1) r) v
+unfolding when◌then◌else◌
 pick true r v f g lo hi = record { below = f tt; above = subst (λ (k : ℕ). v < k * k) (two r) hi }
   where
     two : (r : ℕ) → r + 2 ≡ r + 1 + 1

@@ -6,7 +6,7 @@
 use Rattle.std.specs.Prelude.{ℕ, Bool, true, false, List, [], ◌∷◌, pos, length, take}
 use Rattle.panel.specs.Points.{all_on_panel}
 use Rattle.panel.specs.Refusals.{Told, answered, refused}
-use Rattle.panel.specs.Tests.{if◌then◌else◌, ◌and◌, ◌<?◌}
+use Rattle.panel.specs.Tests.{when◌then◌else◌, ◌and◌, ◌<?◌}
 use Rattle.panel.specs.declared.points.Point.{Point}
 use Rattle.panel.specs.declared.refusals.Refusal.TheVariants.{Long, Target}
 use Rattle.calmap.specs.Maps.{apply_of}
@@ -47,18 +47,18 @@ all_stay c (p ∷ ps) = stays c p and all_stay c ps
 
 unfoldable pub verdict_of : Cal → List Point → Verdict
 verdict_of c ps =
-    if scale_holds c then (if all_stay c ps then Pass else Shift)
+    when scale_holds c then (when all_stay c ps then Pass else Shift)
     else Scale
 
 unfoldable pub check_of : Cal → List Point → CheckAnswer
 check_of c ps =
-    if longest <? length ps then Refused Long
-    else if all_on_panel ps then Answered (verdict_of c ps)
+    when longest <? length ps then Refused Long
+    else when all_on_panel ps then Answered (verdict_of c ps)
     else Refused Target
 
 -- the first n of an array that holds 64
 unfoldable pub check_first : Cal → ℕ → List Point → CheckAnswer
-check_first c n ps = if longest <? n then Refused Long else check_of c (take n ps)
+check_first c n ps = when longest <? n then Refused Long else check_of c (take n ps)
 
 -- a verdict, or that there is none
 pub data Judged : Type 0 where

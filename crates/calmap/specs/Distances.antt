@@ -4,7 +4,7 @@
 -- tenths become the largest t with (16t) squared at most 100 times the squared distance in sixteenths."
 use Rattle.std.specs.Prelude.{ℕ, ◌+◌, ◌*◌, ◌/◌, ◌≤◌, ◌<◌, nat_abs}
 use Rattle.panel.specs.Refusals.{Told, answered, refused}
-use Rattle.panel.specs.Tests.{if◌then◌else◌, ◌and◌}
+use Rattle.panel.specs.Tests.{when◌then◌else◌, ◌and◌}
 use Rattle.panel.specs.declared.refusals.Refusal.TheVariants as Refusal
 use Rattle.calmap.specs.Roots.{root_by}
 use Rattle.calmap.specs.Sizes.{sixteenths_in, hundred}
@@ -28,7 +28,7 @@ unfoldable pub gap_of : Sixteenths → Sixteenths → Sixteenths → Sixteenths 
 gap_of ax ay bx by =
     let dx = ax ⊟ bx in
     let dy = ay ⊟ by in
-    if sixteenths_fit dx and sixteenths_fit dy then Squared (squared dx dy) else Wide
+    when sixteenths_fit dx and sixteenths_fit dy then Squared (squared dx dy) else Wide
 
 -- t is the largest with (16t) squared at most 100 times d2: that of the next one is over it. There is one such t, and
 -- `tenths_of` is it for every d2 of 64 bits (`tenths-below`, `tenths-above`, `tenths-only` of proofs/Laws.antt).

@@ -4,7 +4,7 @@
 -- likewise y. WIDE if x or y is outside i16, or a product or partial sum leaves i32."
 use Rattle.std.specs.Prelude.{Bool, ℤ, pos}
 use Rattle.panel.specs.Refusals.{Told, answered, refused}
-use Rattle.panel.specs.Tests.{if◌then◌else◌, ◌and◌}
+use Rattle.panel.specs.Tests.{when◌then◌else◌, ◌and◌}
 use Rattle.panel.specs.declared.refusals.Refusal.TheVariants.{Wide}
 use Rattle.calmap.specs.Units.{sixteenths, whole_steps, ◌·◌, ◌⊞◌, steps_fit, down_twelve}
 use Rattle.calmap.specs.Wide.{in16}
@@ -30,7 +30,7 @@ spot u v = record { 0 = u; 1 = v }
 
 unfoldable pub apply_of : Cal → ℤ → ℤ → ApplyAnswer
 apply_of c x y =
-    if in16 x and in16 y and line_fits x c.c0 c.c1 c.c2 x y and line_fits y c.c3 c.c4 c.c5 x y
+    when in16 x and in16 y and line_fits x c.c0 c.c1 c.c2 x y and line_fits y c.c3 c.c4 c.c5 x y
     then Answered (spot (down_twelve (line x c.c0 c.c1 c.c2 x y)) (down_twelve (line y c.c3 c.c4 c.c5 x y)))
     else Refused Wide
 

@@ -4,7 +4,7 @@
 -- in `resid`". The distances are told in tenths by the rule of `dist10`; a mean is that of tenths.
 use Rattle.std.specs.Prelude.{ℕ, List, [], ◌∷◌, map, length, take}
 use Rattle.panel.specs.Refusals.{Told, answered, refused}
-use Rattle.panel.specs.Tests.{if◌then◌else◌, ◌<?◌}
+use Rattle.panel.specs.Tests.{when◌then◌else◌, ◌<?◌}
 use Rattle.panel.specs.declared.refusals.Refusal.TheVariants as Refusal
 use Rattle.calmap.specs.Distances.{gap_of, Rule, tenths_of}
 use Rattle.calmap.specs.Maps.{apply_of}
@@ -72,11 +72,11 @@ spread_by rule (known ds) = Answered (spread (mean_of (map rule ds)) (largest (m
 spread_by rule wide = Refused Refusal.Wide
 
 unfoldable pub resid_by : Rule → Cal → List Aim → ResidAnswer
-resid_by rule c ps = if longest <? length ps then Refused Refusal.Long else spread_by rule (misses_of c ps)
+resid_by rule c ps = when longest <? length ps then Refused Refusal.Long else spread_by rule (misses_of c ps)
 
 -- the first n of an array that holds 64
 unfoldable pub resid_first_by : Rule → Cal → ℕ → List Aim → ResidAnswer
-resid_first_by rule c n ps = if longest <? n then Refused Refusal.Long else resid_by rule c (take n ps)
+resid_first_by rule c n ps = when longest <? n then Refused Refusal.Long else resid_by rule c (take n ps)
 
 -- by the rule of the calls
 abbrev pub resid_of : Cal → List Aim → ResidAnswer

@@ -6,7 +6,7 @@
 use Rattle.std.specs.Prelude.{ℕ, ◌-◌, min, Bool, ℤ, pos, negsuc, ◌+ℤ◌}
 use Rattle.panel.specs.Refusals.{Told, answered, refused}
 use Rattle.panel.specs.Sizes.{width, height}
-use Rattle.panel.specs.Tests.{if◌then◌else◌, ◌and◌}
+use Rattle.panel.specs.Tests.{when◌then◌else◌, ◌and◌}
 use Rattle.panel.specs.declared.points.Point.{Point}
 use Rattle.panel.specs.declared.refusals.Refusal.TheVariants.{Wide}
 use Rattle.calmap.specs.Sizes.{half}
@@ -39,7 +39,7 @@ unfoldable pub screen_of : Cal → Point → ScreenAnswer
 screen_of c p =
     let x = pos p.x in
     let y = pos p.y in
-    if nudge_fits c.c0 c.c1 c.c2 x y and nudge_fits c.c3 c.c4 c.c5 x y
+    when nudge_fits c.c0 c.c1 c.c2 x y and nudge_fits c.c3 c.c4 c.c5 x y
     then Answered (record { x = moved (width - 1) p.x (nudge c.c0 c.c1 c.c2 x y); y = moved (height - 1) p.y (nudge c.c3 c.c4 c.c5 x y) })
     else Refused Wide
 

@@ -1,6 +1,6 @@
 // What is taken out of a lent list: an array with room for 64, how many of it are in use, and whether
-// the list goes on past it. The functions over such arrays are covered; those that look into a lent
-// list of structs are proved by hand and do no more than that (module lists).
+// the list goes on past it. Those that look into a lent list of structs do no more than that (module
+// lists).
 ghost use Rattle.std.specs.Prelude.{◌≡◌, [], min, length};
 ghost use Rattle.calmap.specs.Sizes.{longest};
 ghost use Rattle.calmap.specs.Resids.{pairs_of};
@@ -13,7 +13,7 @@ use crate::{limits, residuals};
 use panel::{Point, Refusal};
 
 // Taps of a lent list.
-#[derive(Drop)]
+#[derive(Clone, Copy)]
 pub(crate) struct Taps {
     pub list: [Tap; MAX_TAPS],
     pub n: usize,
@@ -21,7 +21,7 @@ pub(crate) struct Taps {
 }
 
 // Points of a lent list.
-#[derive(Drop)]
+#[derive(Clone, Copy)]
 pub struct Points {
     pub list: [Point; MAX_TAPS],
     pub n: usize,
@@ -29,7 +29,7 @@ pub struct Points {
 }
 
 // Taps of one lent list beside those of another, as far as both go.
-#[derive(Drop)]
+#[derive(Clone, Copy)]
 pub struct Aims {
     pub list: [Aim; MAX_TAPS],
     pub n: usize,

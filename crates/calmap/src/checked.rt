@@ -8,14 +8,14 @@ ghost use Rattle.calmap.specs.code.Checked.{narrow_of, across_of, plus_of};
 use crate::units::{Q16, Sixteenths};
 
 // Steps of 32 bits, or none that fit.
-#[derive(Drop)]
+#[derive(Clone, Copy)]
 pub(crate) enum Narrow {
     In(Q16),
     Wide,
 }
 
 // Sixteenths of 32 bits, or none that fit.
-#[derive(Drop)]
+#[derive(Clone, Copy)]
 pub(crate) enum Across {
     In(Sixteenths),
     Wide,

@@ -8,14 +8,14 @@ use crate::{checked, roots};
 use panel::Refusal;
 
 // The square of a distance in sixteenths of a pixel, unless a difference on the way to it leaves i32.
-#[derive(Drop)]
+#[derive(Clone, Copy)]
 pub enum Gap {
     Squared(u64),
     Wide,
 }
 
 // A distance in tenths of a pixel.
-#[derive(Drop)]
+#[derive(Clone, Copy)]
 pub enum Dist10Answer {
     Answered(Tenths),
     Refused(Refusal),

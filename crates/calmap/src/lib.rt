@@ -1,6 +1,8 @@
 // The integer half of the touch calibration: the units that it counts in, the map of a point through a
 // calibration, the root and the distance in tenths of a pixel, and over lists of taps and of targets the
 // residuals of a calibration and the verdict on it. What it works out in floats stands in the crate above.
+#![tactic(auto)]
+
 mod arrays;
 mod checked;
 mod gaps;

@@ -10,7 +10,7 @@ use crate::units::{Cal, MAX_TAPS, Q16, Sixteenths};
 use crate::{checked, mapping, pixels};
 use panel::{Point, Refusal};
 
-#[derive(Drop)]
+#[derive(Clone, Copy)]
 pub enum Verdict {
     // Within every limit.
     Pass,
@@ -22,7 +22,7 @@ pub enum Verdict {
     Resid,
 }
 
-#[derive(Drop)]
+#[derive(Clone, Copy)]
 pub enum CheckAnswer {
     Answered(Verdict),
     Refused(Refusal),

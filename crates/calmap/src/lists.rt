@@ -1,5 +1,5 @@
-// The calls of document 01 that take lent lists of points. Each looks into the lists, which is proved
-// by hand, and leaves the rest to the functions over arrays by value.
+// The calls of document 01 that take lent lists of points. Each looks into the lists and leaves the rest
+// to the functions over arrays by value.
 ghost use Rattle.std.specs.Prelude.{◌≡◌};
 ghost use Rattle.calmap.specs.Resids.{pairs_of, resid_of};
 ghost use Rattle.calmap.specs.Checks.{check_of};

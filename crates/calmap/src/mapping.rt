@@ -11,10 +11,10 @@ use crate::units::{Cal, Q16, Sixteenths};
 use panel::Refusal;
 
 // A place in sixteenths of a pixel: x, then y.
-#[derive(Drop)]
+#[derive(Clone, Copy)]
 pub struct Spot(pub Sixteenths, pub Sixteenths);
 
-#[derive(Drop)]
+#[derive(Clone, Copy)]
 pub enum ApplyAnswer {
     Answered(Spot),
     Refused(Refusal),

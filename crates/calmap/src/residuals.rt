@@ -11,13 +11,13 @@ use crate::{gaps, mapping, pixels};
 use panel::Refusal;
 
 // The mean, rounded down, and the largest of some distances; both are 0 for none.
-#[derive(Drop)]
+#[derive(Clone, Copy)]
 pub struct Spread {
     pub mean: Tenths,
     pub max: Tenths,
 }
 
-#[derive(Drop)]
+#[derive(Clone, Copy)]
 pub enum ResidAnswer {
     Answered(Spread),
     Refused(Refusal),

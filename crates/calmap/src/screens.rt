@@ -9,7 +9,7 @@ use crate::units::{Cal, Q16};
 use crate::{checked, pixels};
 use panel::{HEIGHT, Point, Refusal, WIDTH};
 
-#[derive(Drop)]
+#[derive(Clone, Copy)]
 pub enum ScreenAnswer {
     Answered(Point),
     Refused(Refusal),

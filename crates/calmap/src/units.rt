@@ -2,20 +2,20 @@
 // six numbers of a calibration.
 
 // Sixteenths of a pixel.
-#[derive(Drop)]
+#[derive(Clone, Copy)]
 pub struct Sixteenths(pub i32);
 
 // Tenths of a pixel.
-#[derive(Drop)]
+#[derive(Clone, Copy)]
 pub struct Tenths(pub u32);
 
 // Steps of 1/65536.
-#[derive(Drop)]
+#[derive(Clone, Copy)]
 pub struct Q16(pub i32);
 
 // A calibration: x' = a x + b y + c, y' = d x + e y + f, kept as the difference from the identity,
 // a - 1, b, c, d, e - 1, f in Q16 steps. All zero is no calibration.
-#[derive(Drop)]
+#[derive(Clone, Copy)]
 pub struct Cal {
     pub c0: Q16,
     pub c1: Q16,
@@ -29,14 +29,14 @@ pub struct Cal {
 pub const MAX_TAPS: usize = 64;
 
 // A point in pixels that need not be on the panel: a raw tap, or where it should have been.
-#[derive(Drop)]
+#[derive(Clone, Copy)]
 pub struct Tap {
     pub x: i16,
     pub y: i16,
 }
 
 // A raw tap and the target that it was meant for.
-#[derive(Drop)]
+#[derive(Clone, Copy)]
 pub struct Aim {
     pub raw: Tap,
     pub tgt: Tap,

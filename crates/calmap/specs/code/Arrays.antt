@@ -1,7 +1,7 @@
 -- Lent lists, as the code holds them: an array of 64, a count, and whether the list goes on. proofs/Holding.antt has that
 -- `resid` and `check` of what is held are those of the lists.
 use Rattle.std.specs.Prelude.{ℕ, zero, suc, ◌+◌, min, true, List, [], ◌∷◌, pos, length, set}
-use Rattle.panel.specs.Tests.{if◌then◌else◌, ◌and◌, ◌<?◌}
+use Rattle.panel.specs.Tests.{when◌then◌else◌, ◌and◌, ◌<?◌}
 use Rattle.panel.specs.declared.points.Point.{Point}
 use Rattle.panel.specs.declared.refusals.Refusal.TheVariants.{Long}
 use Rattle.calmap.specs.Checks.{check_first}
@@ -45,16 +45,16 @@ held_pairs raw tgt = pair_up (held_taps raw) (held_taps tgt)
 -- one more at the end
 unfoldable pub put_tap : Taps → Tap → Taps
 put_tap l t =
-    if l.n <? longest then record { list = set l.list l.n t; n = l.n + 1; long = l.long }
+    when l.n <? longest then record { list = set l.list l.n t; n = l.n + 1; long = l.long }
     else record { list = l.list; n = l.n; long = true }
 
 unfoldable pub put_point : Points → Point → Points
 put_point l p =
-    if l.n <? longest then record { list = set l.list l.n p; n = l.n + 1; long = l.long }
+    when l.n <? longest then record { list = set l.list l.n p; n = l.n + 1; long = l.long }
     else record { list = l.list; n = l.n; long = true }
 
 unfoldable pub resid_held : Cal → Aims → ResidAnswer
-resid_held c a = if a.long then Resid.Refused Long else resid_first c a.n a.list
+resid_held c a = when a.long then Resid.Refused Long else resid_first c a.n a.list
 
 unfoldable pub check_held : Cal → Points → CheckAnswer
-check_held c a = if a.long then Check.Refused Long else check_first c a.n a.list
+check_held c a = when a.long then Check.Refused Long else check_first c a.n a.list

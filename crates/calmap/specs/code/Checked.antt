@@ -4,7 +4,7 @@
 use Rattle.std.specs.Prelude.{ℕ, ◌-◌, Bool, ℤ}
 use Rattle.std.specs.Int.Signed.{mag}
 use Rattle.panel.specs.Sizes.{width, height}
-use Rattle.panel.specs.Tests.{if◌then◌else◌, ◌and◌, ◌<?◌}
+use Rattle.panel.specs.Tests.{when◌then◌else◌, ◌and◌, ◌<?◌}
 use Rattle.panel.specs.declared.points.Point.{Point}
 use Rattle.panel.specs.declared.refusals.Refusal.TheVariants as Refusal
 use Rattle.calmap.specs.Maps.{line, line_fits, spot}
@@ -12,7 +12,6 @@ use Rattle.calmap.specs.Screening.{nudge, nudge_fits, moved}
 use Rattle.calmap.specs.Units.{◌⊞◌, steps_fit, down_twelve, sixteenths_fit}
 use Rattle.calmap.specs.Wide.{in16}
 use Rattle.calmap.specs.declared.checked.Across.{Across}
-use Rattle.calmap.specs.declared.checked.Across.TheVariants as Across
 use Rattle.calmap.specs.declared.checked.Narrow.{Narrow}
 use Rattle.calmap.specs.declared.checked.Narrow.TheVariants.{In, Wide}
 use Rattle.calmap.specs.declared.gaps.Gap as gap
@@ -25,10 +24,10 @@ use Rattle.calmap.specs.declared.units.Q16.{Q16}
 use Rattle.calmap.specs.declared.units.Sixteenths.{Sixteenths}
 
 unfoldable pub narrow_of : Q16 → Narrow
-narrow_of q = if steps_fit q then In q else Wide
+narrow_of q = when steps_fit q then In q else Wide
 
 unfoldable pub across_of : Sixteenths → Across
-across_of s = if sixteenths_fit s then Across.In s else Across.Wide
+across_of s = when sixteenths_fit s then Across.In s else Across.Wide
 
 unfoldable pub plus_of : Narrow → Narrow → Narrow
 plus_of (In a) (In b) = narrow_of (a ⊞ b)
@@ -36,10 +35,10 @@ plus_of (In a) Wide = Wide
 plus_of Wide b = Wide
 
 unfoldable pub line_of : ℤ → Q16 → Q16 → Q16 → ℤ → ℤ → Narrow
-line_of v p q k x y = if line_fits v p q k x y then In (line v p q k x y) else Wide
+line_of v p q k x y = when line_fits v p q k x y then In (line v p q k x y) else Wide
 
 unfoldable pub nudge_of : Q16 → Q16 → Q16 → ℤ → ℤ → Narrow
-nudge_of p q k x y = if nudge_fits p q k x y then In (nudge p q k x y) else Wide
+nudge_of p q k x y = when nudge_fits p q k x y then In (nudge p q k x y) else Wide
 
 -- when `apply16` answers, and what
 unfoldable pub both_fit : Q16 → Q16 → Q16 → Q16 → Q16 → Q16 → ℤ → ℤ → Bool
