@@ -49,7 +49,7 @@ line-fits : (v x y : ℤ) → mag v < 2 ^ 15 → line_fits v none' none' none' x
 unfolding line_fits in32 ◌and◌
 line-fits v x y h =
     let e : ltb (mag (v *ℤ pos one)) end32 ≡ true = lt-ltb _ _ (times-one v h) in
-    simp (line-is, zero-*ℤ, +ℤ_idr, e) (rw (zero-*ℤ x, zero-*ℤ y))
+    simp (line-is, zero-*ℤ, +ℤ_idr, e)
 
 -- ---- how far from its target
 

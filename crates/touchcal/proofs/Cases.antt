@@ -2,7 +2,7 @@
 -- mean 0, max 0, before 410, Shift. +40 passes." An input for each refusal, and the edges of `q16`. Assumes nothing.
 use Rattle.std.proofs.Common.{◌≡◌, ℕ, ◌+◌, true, false, List, [], ◌∷◌, map, replicate, ℤ, pos, negsuc, refl}
 use lib.Ieee.{nan, fin, of_bits, add, sub, mul, div, lt, of_int, to_signed}
-use Rattle.panel.specs.Tests.{if◌then◌else◌, ◌and◌, ◌or◌}
+use Rattle.panel.specs.Tests.{when◌then◌else◌, ◌and◌, ◌or◌}
 use Rattle.panel.specs.Points.{on_panel, all_on_panel}
 use Rattle.panel.specs.declared.points.Point.{Point}
 use Rattle.panel.specs.declared.refusals.Refusal.TheVariants.{Huge}
@@ -45,11 +45,11 @@ moved c2 =
     record { c0 = none; c1 = none; c2 = record { 0 = pos c2 }; c3 = none; c4 = none; c5 = none }
 
 pub corners-41 : fit_of (corners 41) target ≡ Answered (record { cal = moved 2_686_976; mean = tenths 0; max = tenths 0; before = tenths 410; verdict = Shift })
-unfolding fit_by solved_of stepped_of moments_of place_of add_pair shared_of add_about det_of spreads coefs_of deltas_of steps_of in_steps q16_of in_reach nearest_step half_away resid_by misses_of miss_of largest apply_of line line_fits in32 in16 down digit root_by squared gap_of tenths_of check_of verdict_of scale_holds mild near stays all_stay on_panel all_on_panel sum_of mean_of if◌then◌else◌ ◌and◌ ◌or◌ of_bits add sub mul div lt of_int to_signed
+unfolding fit_by solved_of stepped_of moments_of place_of add_pair shared_of add_about det_of spreads coefs_of deltas_of steps_of in_steps q16_of in_reach nearest_step half_away resid_by misses_of miss_of largest apply_of line line_fits in32 in16 down digit root_by squared gap_of tenths_of check_of verdict_of scale_holds mild near stays all_stay on_panel all_on_panel sum_of mean_of when◌then◌else◌ ◌and◌ ◌or◌ of_bits add sub mul div lt of_int to_signed
 corners-41 = refl
 
 pub corners-40 : fit_of (corners 40) target ≡ Answered (record { cal = moved 2_621_440; mean = tenths 0; max = tenths 0; before = tenths 400; verdict = Pass })
-unfolding fit_by solved_of stepped_of moments_of place_of add_pair shared_of add_about det_of spreads coefs_of deltas_of steps_of in_steps q16_of in_reach nearest_step half_away resid_by misses_of miss_of largest apply_of line line_fits in32 in16 down digit root_by squared gap_of tenths_of check_of verdict_of scale_holds mild near stays all_stay on_panel all_on_panel sum_of mean_of if◌then◌else◌ ◌and◌ ◌or◌ of_bits add sub mul div lt of_int to_signed
+unfolding fit_by solved_of stepped_of moments_of place_of add_pair shared_of add_about det_of spreads coefs_of deltas_of steps_of in_steps q16_of in_reach nearest_step half_away resid_by misses_of miss_of largest apply_of line line_fits in32 in16 down digit root_by squared gap_of tenths_of check_of verdict_of scale_holds mild near stays all_stay on_panel all_on_panel sum_of mean_of when◌then◌else◌ ◌and◌ ◌or◌ of_bits add sub mul div lt of_int to_signed
 corners-40 = refl
 
 -- ---- the limit of a fit, "Resid if max > 250": the corners onto themselves, but for two opposite ones that are moved by the same. The fit
@@ -71,11 +71,11 @@ shifted c2 c5 =
     record { c0 = none; c1 = none; c2 = record { 0 = pos c2 }; c3 = none; c4 = none; c5 = record { 0 = pos c5 } }
 
 pub at-the-limit : fit_of (opposite 50 4) target ≡ Answered (record { cal = shifted 1_638_400 131_072; mean = tenths 250; max = tenths 250; before = tenths 250; verdict = Pass })
-unfolding fit_by solved_of stepped_of moments_of place_of add_pair shared_of add_about det_of spreads coefs_of deltas_of steps_of in_steps q16_of in_reach nearest_step half_away resid_by misses_of miss_of largest apply_of line line_fits in32 in16 down digit root_by squared gap_of tenths_of check_of verdict_of scale_holds mild near stays all_stay on_panel all_on_panel sum_of mean_of if◌then◌else◌ ◌and◌ ◌or◌ of_bits add sub mul div lt of_int to_signed
+unfolding fit_by solved_of stepped_of moments_of place_of add_pair shared_of add_about det_of spreads coefs_of deltas_of steps_of in_steps q16_of in_reach nearest_step half_away resid_by misses_of miss_of largest apply_of line line_fits in32 in16 down digit root_by squared gap_of tenths_of check_of verdict_of scale_holds mild near stays all_stay on_panel all_on_panel sum_of mean_of when◌then◌else◌ ◌and◌ ◌or◌ of_bits add sub mul div lt of_int to_signed
 at-the-limit = refl
 
 pub over-the-limit : fit_of (opposite 50 5) target ≡ Answered (record { cal = shifted 1_638_400 163_840; mean = tenths 251; max = tenths 251; before = tenths 251; verdict = Resid })
-unfolding fit_by solved_of stepped_of moments_of place_of add_pair shared_of add_about det_of spreads coefs_of deltas_of steps_of in_steps q16_of in_reach nearest_step half_away resid_by misses_of miss_of largest apply_of line line_fits in32 in16 down digit root_by squared gap_of tenths_of check_of verdict_of scale_holds mild near stays all_stay on_panel all_on_panel sum_of mean_of if◌then◌else◌ ◌and◌ ◌or◌ of_bits add sub mul div lt of_int to_signed
+unfolding fit_by solved_of stepped_of moments_of place_of add_pair shared_of add_about det_of spreads coefs_of deltas_of steps_of in_steps q16_of in_reach nearest_step half_away resid_by misses_of miss_of largest apply_of line line_fits in32 in16 down digit root_by squared gap_of tenths_of check_of verdict_of scale_holds mild near stays all_stay on_panel all_on_panel sum_of mean_of when◌then◌else◌ ◌and◌ ◌or◌ of_bits add sub mul div lt of_int to_signed
 over-the-limit = refl
 
 -- ---- each refusal, in its order, and the place that STEEP tells: FEW, LINE and STEEP by few taps close together
@@ -121,7 +121,7 @@ pub refusals : map why_told
     ∷ fit_of (pair (pos 0) (pos 0) (negsuc 1) (pos 0) ∷ pair (pos 32767) (pos 0) (pos 32767) (pos 0) ∷ pair (pos 0) (pos 100) (negsuc 1) (pos 100) ∷ []) target
     ∷ [])
     ≡ (4, 0) ∷ (5, 0) ∷ (6, 0) ∷ (16, 0) ∷ (16, 0) ∷ (16, 0) ∷ (16, 0) ∷ (0, 0) ∷ (3, 0) ∷ (17, 0) ∷ (17, 1) ∷ (0, 0) ∷ (17, 2) ∷ (17, 3) ∷ (17, 4) ∷ (17, 5) ∷ (17, 1) ∷ (17, 4) ∷ (17, 0) ∷ (3, 0) ∷ []
-unfolding fit_by solved_of stepped_of first_refused moments_of place_of add_pair shared_of add_about det_of spreads coefs_of deltas_of steps_of in_steps q16_of in_reach nearest_step half_away resid_by misses_of miss_of largest apply_of line line_fits in32 in16 down digit root_by squared gap_of tenths_of check_of verdict_of scale_holds mild near stays all_stay on_panel all_on_panel sum_of mean_of if◌then◌else◌ ◌and◌ ◌or◌ of_bits add sub mul div lt of_int to_signed
+unfolding fit_by solved_of stepped_of first_refused moments_of place_of add_pair shared_of add_about det_of spreads coefs_of deltas_of steps_of in_steps q16_of in_reach nearest_step half_away resid_by misses_of miss_of largest apply_of line line_fits in32 in16 down digit root_by squared gap_of tenths_of check_of verdict_of scale_holds mild near stays all_stay on_panel all_on_panel sum_of mean_of when◌then◌else◌ ◌and◌ ◌or◌ of_bits add sub mul div lt of_int to_signed
 refusals = refl
 
 -- ---- the smallest fits found with a coefficient beyond its steps, a to f, and c with f: three taps nearly on one line, all targets (0,0) but that of
@@ -142,7 +142,7 @@ aside = between (pos 25) (negsuc 8) (pos 26) (pos 0) (pos 27) (pos 8)
 pub steepest : map (λ ps. why_told (fit_of ps target))
     (upright 1_695 0 ∷ upright 1_696 0 ∷ level 1_696 0 ∷ aside 68 0 ∷ aside 69 0 ∷ upright 0 1_696 ∷ level 0 1_696 ∷ aside 0 69 ∷ aside 69 69 ∷ [])
     ≡ (0, 0) ∷ (17, 0) ∷ (17, 1) ∷ (0, 0) ∷ (17, 2) ∷ (17, 3) ∷ (17, 4) ∷ (17, 5) ∷ (17, 2) ∷ []
-unfolding fit_by solved_of stepped_of first_refused moments_of place_of add_pair shared_of add_about det_of spreads coefs_of deltas_of steps_of in_steps q16_of in_reach nearest_step half_away resid_by misses_of miss_of largest apply_of line line_fits in32 in16 down digit root_by squared gap_of tenths_of check_of verdict_of scale_holds mild near stays all_stay on_panel all_on_panel sum_of mean_of if◌then◌else◌ ◌and◌ ◌or◌ of_bits add sub mul div lt of_int to_signed
+unfolding fit_by solved_of stepped_of first_refused moments_of place_of add_pair shared_of add_about det_of spreads coefs_of deltas_of steps_of in_steps q16_of in_reach nearest_step half_away resid_by misses_of miss_of largest apply_of line line_fits in32 in16 down digit root_by squared gap_of tenths_of check_of verdict_of scale_holds mild near stays all_stay on_panel all_on_panel sum_of mean_of when◌then◌else◌ ◌and◌ ◌or◌ of_bits add sub mul div lt of_int to_signed
 steepest = refl
 
 -- ---- `q16` at its edges: NaN; s = 2.0e9, and the float below it; a half of a step either way; and the largest s below a half, which is
@@ -163,7 +163,7 @@ pub q16-edges : map q16_of
     ∷ Q16Answer.Answered (record { 0 = negsuc 0 })
     ∷ Q16Answer.Answered (record { 0 = pos 1 })
     ∷ []
-unfolding q16_of in_reach nearest_step half_away if◌then◌else◌ ◌and◌ add sub mul lt to_signed
+unfolding q16_of in_reach nearest_step half_away when◌then◌else◌ ◌and◌ add sub mul lt to_signed
 q16-edges = refl
 
 -- no calibration is the identity

@@ -4,7 +4,7 @@ use Rattle.std.proofs.Common.{◌≡◌, ℕ, ◌<◌, ◌≤◌, Bool, true, fa
 use Rattle.calmap.specs.code.Arrays.{held_pairs, held_points}
 use Rattle.calmap.specs.declared.units.Tap.{Tap}
 use Rattle.calmap.proofs.Holding.{pairs-long, pairs-count, pairs-all, points-long, points-count, points-all}
-use Rattle.panel.specs.Tests.{if◌then◌else◌, ◌or◌, ◌<?◌}
+use Rattle.panel.specs.Tests.{when◌then◌else◌, ◌or◌, ◌<?◌}
 use Rattle.panel.specs.Points.{all_on_panel}
 use Rattle.panel.specs.declared.points.Point.{Point}
 use Rattle.panel.specs.declared.refusals.Refusal.{Refusal}
@@ -33,28 +33,28 @@ by-test true f g = f refl
 by-test false f g = g refl
 
 -- the same three tests, of `check` and of `fit`
-abbrev of-check : Bool → Bool → Bool → CheckAnswer → CheckAnswer
-of-check long longer on x = if long then Check.Refused Long else if longer then Check.Refused Long else if on then x else Check.Refused Target
+abbrev of_check : Bool → Bool → Bool → CheckAnswer → CheckAnswer
+of_check long longer on x = when long then Check.Refused Long else when longer then Check.Refused Long else when on then x else Check.Refused Target
 
-abbrev of-fit : Bool → Bool → Bool → FitAnswer → FitAnswer
-of-fit long longer on x = if long then Refused Long else if longer then Refused Long else if on then x else Refused Target
+abbrev of_fit : Bool → Bool → Bool → FitAnswer → FitAnswer
+of_fit long longer on x = when long then Refused Long else when longer then Refused Long else when on then x else Refused Target
 
-both-refuse : (l l' on : Bool) (v : Verdict) (x : FitAnswer) (r : Refusal) → of-check l l' on (Check.Answered v) ≡ Check.Refused r → of-fit l l' on x ≡ Refused r
-unfolding if◌then◌else◌
+both-refuse : (l l' on : Bool) (v : Verdict) (x : FitAnswer) (r : Refusal) → of_check l l' on (Check.Answered v) ≡ Check.Refused r → of_fit l l' on x ≡ Refused r
+unfolding when◌then◌else◌
 both-refuse true l' on v x r e = cc
 both-refuse false true on v x r e = cc
 both-refuse false false true v x r e = let z : ◌≡◌ {A = ℕ} 0 1 = cc in absurd (omega arith)
 both-refuse false false false v x r e = cc
 
-both-go-on : (l l' on : Bool) (v w : Verdict) (x : FitAnswer) → of-check l l' on (Check.Answered v) ≡ Check.Answered w → of-fit l l' on x ≡ x
-unfolding if◌then◌else◌
+both-go-on : (l l' on : Bool) (v w : Verdict) (x : FitAnswer) → of_check l l' on (Check.Answered v) ≡ Check.Answered w → of_fit l l' on x ≡ x
+unfolding when◌then◌else◌
 both-go-on true l' on v w x e = let z : ◌≡◌ {A = ℕ} 0 1 = cc in absurd (omega arith)
 both-go-on false true on v w x e = let z : ◌≡◌ {A = ℕ} 0 1 = cc in absurd (omega arith)
 both-go-on false false true v w x e = refl
 both-go-on false false false v w x e = let z : ◌≡◌ {A = ℕ} 0 1 = cc in absurd (omega arith)
 
-not-refused : (l : Bool) (x : CheckAnswer) (v : Verdict) → (if l then Check.Refused Long else x) ≡ Check.Answered v → l ≡ false
-unfolding if◌then◌else◌
+not-refused : (l : Bool) (x : CheckAnswer) (v : Verdict) → (when l then Check.Refused Long else x) ≡ Check.Answered v → l ≡ false
+unfolding when◌then◌else◌
 not-refused true x v e = let z : ◌≡◌ {A = ℕ} 0 1 = cc in absurd (omega arith)
 not-refused false x v e = refl
 
@@ -70,7 +70,7 @@ module _ (n : ℕ) (ps : List Aim) (m : ℕ) (ts : List Point) where
     abbrev solution : FitAnswer
     solution = fitted_by tenths_of (solved_of (take n ps)) (take n ps) (take m ts)
 
-    fit-first : fit_first n ps m ts ≡ of-fit (longest <? m) (longest <? length (take m ts)) (all_on_panel (take m ts)) solution
+    fit-first : fit_first n ps m ts ≡ of_fit (longest <? m) (longest <? length (take m ts)) (all_on_panel (take m ts)) solution
     unfolding fit_first_by fit_by
     fit-first = rw (or-false _ _ (le-ltb _ _ few), or-false _ _ (not-long n ps few))
 

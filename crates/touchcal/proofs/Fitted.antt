@@ -1,12 +1,11 @@
 -- `fit` case by case: which refusal comes where, and that the residuals of a fit are those of `resid` and its verdict that of `check`.
 -- Assumes nothing.
 use Rattle.std.proofs.Common.{◌≡◌, ℕ, Bool, true, false, List, map, length, refl, ap, subst, arith}
-use Rattle.panel.specs.Tests.{if◌then◌else◌, ◌or◌, ◌<?◌}
+use Rattle.panel.specs.Tests.{when◌then◌else◌, ◌<?◌}
 use Rattle.panel.specs.Points.{all_on_panel}
 use Rattle.panel.specs.Refusals.{Told}
 use Rattle.panel.specs.declared.points.Point.{Point}
 use Rattle.panel.specs.declared.refusals.Refusal.{Refusal}
-use Rattle.panel.specs.declared.refusals.Refusal.TheVariants as Refusal
 use Rattle.panel.proofs.Follow.{follow, if-of}
 use Rattle.calmap.specs.Sizes.{longest}
 use Rattle.calmap.specs.Distances.{Rule, tenths_of}
@@ -29,7 +28,6 @@ use Rattle.touchcal.specs.declared.floats.Coefs.{Coefs}
 use Rattle.touchcal.specs.declared.floats.CoefPlace.{CoefPlace}
 use Rattle.touchcal.specs.declared.solving.Solved.{Solved}
 use Rattle.touchcal.specs.declared.solving.Solved.TheVariants.{Is, Few, Line}
-use Rattle.touchcal.specs.declared.solving.Solved.TheVariants as Solved
 use Rattle.touchcal.specs.declared.fitting.Fit.{Fit}
 use Rattle.touchcal.specs.declared.fitting.FitAnswer.{FitAnswer}
 use Rattle.touchcal.specs.declared.fitting.FitAnswer.TheVariants.{Answered, Refused, Steep}
@@ -53,7 +51,7 @@ near ps = all_reach (deltas ps)
 abbrev pub first : List Aim → CoefPlace
 first ps = place (first_refused (in_order (deltas ps)))
 
-pub solved-are : (ps : List Aim) → solved_of ps ≡ (if few ps then Few else if spread ps then (if near ps then Is (nearest_cal (deltas ps)) else Solved.Steep (first ps)) else Line)
+pub solved-are : (ps : List Aim) → solved_of ps ≡ (when few ps then Few else when spread ps then (when near ps then Is (nearest_cal (deltas ps)) else Solved.Steep (first ps)) else Line)
 unfolding solved_of
 solved-are ps = rw (stepped-are (deltas ps), if-of of_steps (near ps) _ _)
 
@@ -61,15 +59,15 @@ solved-are ps = rw (stepped-are (deltas ps), if-of of_steps (near ps) _ _)
 pub unfit-exactly : (rule : Rule) (ps : List Aim) (ts : List Point)
     → fitted_by rule (solved_of ps) ps ts
     ≡ (let c = nearest_cal (deltas ps) in
-    if few ps then Refused Refusal.Few
-    else if spread ps then (if near ps then weighed c (resid_by rule c ps) (resid_by rule identity ps) (check_of c ts) else Steep (first ps))
+    when few ps then Refused Refusal.Few
+    else when spread ps then (when near ps then weighed c (resid_by rule c ps) (resid_by rule identity ps) (check_of c ts) else Steep (first ps))
     else Refused Refusal.Line)
-unfolding if◌then◌else◌
+unfolding when◌then◌else◌
 unfit-exactly rule ps ts = rw (solved-are ps) (go (few ps) (spread ps) (near ps) (nearest_cal (deltas ps)) (first ps))
   where
     go : (f s n : Bool) (c : Cal) (p : CoefPlace)
-        → fitted_by rule (if f then Few else if s then (if n then Is c else Solved.Steep p) else Line) ps ts
-        ≡ (if f then Refused Refusal.Few else if s then (if n then weighed c (resid_by rule c ps) (resid_by rule identity ps) (check_of c ts) else Steep p) else Refused Refusal.Line)
+        → fitted_by rule (when f then Few else when s then (when n then Is c else Solved.Steep p) else Line) ps ts
+        ≡ (when f then Refused Refusal.Few else when s then (when n then weighed c (resid_by rule c ps) (resid_by rule identity ps) (check_of c ts) else Steep p) else Refused Refusal.Line)
     go true s n c p = refl
     go false true true c p = refl
     go false true false c p = refl
@@ -154,8 +152,8 @@ fitted-back rule ps ts Few f e = never Refusal.Few f e
 fitted-back rule ps ts Line f e = never Refusal.Line f e
 fitted-back rule ps ts (Solved.Steep p) f e = let z : ◌≡◌ {A = ℕ} 0 1 = cc in absurd (omega arith)
 
-answered-inside : (a b : Bool) (r r' : Refusal) (x : FitAnswer) (f : Fit) → (if a then Refused r else if b then x else Refused r') ≡ Answered f → x ≡ Answered f
-unfolding if◌then◌else◌
+answered-inside : (a b : Bool) (r r' : Refusal) (x : FitAnswer) (f : Fit) → (when a then Refused r else when b then x else Refused r') ≡ Answered f → x ≡ Answered f
+unfolding when◌then◌else◌
 answered-inside true b r r' x f e = never r f e
 answered-inside false true r r' x f e = e
 answered-inside false false r r' x f e = never r' f e

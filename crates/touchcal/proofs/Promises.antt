@@ -2,7 +2,7 @@
 -- contract leaves no second answer. Assumes nothing.
 use Rattle.std.proofs.Common.{◌≡◌, ℕ, Bool, true, false, List, length, pos, refl, ◌∙◌}
 use lib.Ieee.{Float}
-use Rattle.panel.specs.Tests.{if◌then◌else◌, ◌or◌, ◌<?◌}
+use Rattle.panel.specs.Tests.{when◌then◌else◌, ◌or◌, ◌<?◌}
 use Rattle.panel.specs.Points.{all_on_panel}
 use Rattle.panel.specs.declared.points.Point.{Point}
 use Rattle.panel.specs.declared.refusals.Refusal.TheVariants.{Huge}
@@ -36,27 +36,27 @@ use Rattle.touchcal.proofs.Fitted.{tells, zeros, by_solution, solution-tells}
 use Rattle.touchcal.proofs.Choices.{if-then, if-else, neither_left, neither_right}
 
 -- HUGE, number 7 and a zero, exactly out of reach.
-pub q16-tells : (v : Float) → told_q16 (q16_of v) ≡ (if in_reach v then tells 0 (nearest_step v) else tells 7 (record { 0 = pos 0 }))
+pub q16-tells : (v : Float) → told_q16 (q16_of v) ≡ (when in_reach v then tells 0 (nearest_step v) else tells 7 (record { 0 = pos 0 }))
 unfolding q16_of
 q16-tells v = if-of told_q16 _ _ _
 
 -- HUGE exactly where one of the six is out of reach.
-pub from-tells : (v : Coefs) → told_cal (from_f32_of v) ≡ (if all_reach (off_identity v) then tells 0 (nearest_cal (off_identity v)) else tells 7 identity)
+pub from-tells : (v : Coefs) → told_cal (from_f32_of v) ≡ (when all_reach (off_identity v) then tells 0 (nearest_cal (off_identity v)) else tells 7 identity)
 unfolding from_f32_of
 from-tells v = rw (steps-are (off_identity v)) (if-of told_cal _ _ _)
 
 -- Whatever was pending: the calibration that was put, or with HUGE nothing.
-pub put-tells : (p : Pending) (v : Coefs) → told_put (put_of p v) ≡ (if all_reach (off_identity v) then tells 0 (record { set = true; cal = nearest_cal (off_identity v) }) else tells 7 clear)
+pub put-tells : (p : Pending) (v : Coefs) → told_put (put_of p v) ≡ (when all_reach (off_identity v) then tells 0 (record { set = true; cal = nearest_cal (off_identity v) }) else tells 7 clear)
 unfolding put_of from_f32_of
 put-tells p v = rw (steps-are (off_identity v)) (if-of (λ a. told_put (kept a)) _ _ _)
 
 -- Number 0 always, and nothing pending after it.
-pub take-tells : (p : Pending) → told_take (take_of p) ≡ (if p.set then tells 0 (record { some = true; cal = p.cal; after = clear }) else tells 0 (record { some = false; cal = identity; after = clear }))
+pub take-tells : (p : Pending) → told_take (take_of p) ≡ (when p.set then tells 0 (record { some = true; cal = p.cal; after = clear }) else tells 0 (record { some = false; cal = identity; after = clear }))
 unfolding take_of
 take-tells p = if-of told_take _ _ _
 
 -- LONG, TARGET, FEW, LINE, STEEP and WIDE in this order, zeros with each but for the place of STEEP; else the calibration, its residuals and the verdict.
-pub fit-tells : (ps : List Aim) (ts : List Point) → told_fit (fit_of ps ts) ≡ (if longest <? length ps or longest <? length ts then tells 4 zeros else if all_on_panel ts then by_solution (solved_of ps) ps ts else tells 5 zeros)
+pub fit-tells : (ps : List Aim) (ts : List Point) → told_fit (fit_of ps ts) ≡ (when longest <? length ps or longest <? length ts then tells 4 zeros else when all_on_panel ts then by_solution (solved_of ps) ps ts else tells 5 zeros)
 unfolding fit_by
 fit-tells ps ts =
     if-of told_fit _ _ _
@@ -66,8 +66,8 @@ fit-tells ps ts =
 
 -- ---- what was put is taken once
 
-none_left : (b : Bool) (c : Cal) → (told_take (if b then Taken c clear else Nothing clear)).value.after ≡ clear
-unfolding if◌then◌else◌
+none_left : (b : Bool) (c : Cal) → (told_take (when b then Taken c clear else Nothing clear)).value.after ≡ clear
+unfolding when◌then◌else◌
 none_left true c = refl
 none_left false c = refl
 
@@ -76,11 +76,11 @@ unfolding take_of
 taken-once p = rw (none_left p.set p.cal) (if-false _ _ _ refl)
 
 pub put-taken : (p : Pending) (v : Coefs) (c : Cal) → from_f32_of v ≡ CalAnswer.Answered c → take_of (told_put (put_of p v)).value ≡ Taken c clear
-unfolding put_of take_of if◌then◌else◌
+unfolding put_of take_of when◌then◌else◌
 put-taken p v c e = rw e
 
 pub huge-clears : (p : Pending) (v : Coefs) → from_f32_of v ≡ CalAnswer.Refused Huge → take_of (told_put (put_of p v)).value ≡ Nothing clear
-unfolding put_of take_of if◌then◌else◌
+unfolding put_of take_of when◌then◌else◌
 huge-clears p v e = rw e
 
 -- ---- each contract determines the answer, one line for each public function: panel's `one_answer`

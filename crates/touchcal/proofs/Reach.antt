@@ -1,7 +1,7 @@
 -- Six coefficients at once: HUGE exactly where one of them is out of reach, and the place of the first that is. Assumes nothing.
 use Rattle.std.proofs.Common.{◌≡◌, ℕ, suc, ◌<◌, Bool, true, false, not, List, [], ◌∷◌, length, sym, refl, ap, ◌∙◌, subst, true≢false, arith}
 use lib.Ieee.{Float}
-use Rattle.panel.specs.Tests.{if◌then◌else◌, ◌and◌, ◌or◌}
+use Rattle.panel.specs.Tests.{when◌then◌else◌, ◌and◌, ◌or◌}
 use Rattle.panel.specs.declared.refusals.Refusal.TheVariants.{Huge}
 use Rattle.panel.proofs.Follow.{if-of, if-true, if-false}
 use Rattle.calmap.specs.declared.units.Q16.{Q16}
@@ -16,7 +16,7 @@ use Rattle.touchcal.specs.declared.floats.CalAnswer.{CalAnswer}
 use Rattle.touchcal.specs.declared.floats.CalAnswer.TheVariants.{Answered, Refused}
 use Rattle.touchcal.proofs.Choices.{if-and}
 
-one-step : (v : Float) (next : Q16 → CalAnswer) → in_steps (q16_of v) next ≡ (if in_reach v then next (nearest_step v) else Refused Huge)
+one-step : (v : Float) (next : Q16 → CalAnswer) → in_steps (q16_of v) next ≡ (when in_reach v then next (nearest_step v) else Refused Huge)
 unfolding q16_of in_steps
 one-step v next = if-of (λ x. in_steps x next) (in_reach v) _ _
 
@@ -37,23 +37,23 @@ nearest_cal v = record {
   c5 = nearest_step v.f;
 }
 
-pub steps-are : (v : Coefs) → steps_of v ≡ (if all_reach v then Answered (nearest_cal v) else Refused Huge)
+pub steps-are : (v : Coefs) → steps_of v ≡ (when all_reach v then Answered (nearest_cal v) else Refused Huge)
 unfolding steps_of
 steps-are v = simp (one-step, if-and, if-true)
 
 -- ---- the steps, or the place of the first that has none
 
-pub stepped-are : (v : Coefs) → stepped_of v ≡ (if all_reach v then Are (nearest_cal v) else Beyond (place (first_refused (in_order v))))
+pub stepped-are : (v : Coefs) → stepped_of v ≡ (when all_reach v then Are (nearest_cal v) else Beyond (place (first_refused (in_order v))))
 unfolding stepped_of
 stepped-are v = rw (steps-are v) (if-of (λ a. or_place a (place (first_refused (in_order v)))) (all_reach v) _ _)
 
-are-back : (near : Bool) (c d : Cal) (p : CoefPlace) → (if near then Are d else Beyond p) ≡ Are c → (if near then Answered d else Refused Huge) ≡ Answered c
-unfolding if◌then◌else◌
+are-back : (near : Bool) (c d : Cal) (p : CoefPlace) → (when near then Are d else Beyond p) ≡ Are c → (when near then Answered d else Refused Huge) ≡ Answered c
+unfolding when◌then◌else◌
 are-back true c d p e = cc
 are-back false c d p e = let z : ◌≡◌ {A = ℕ} 0 1 = cc in absurd (omega arith)
 
-beyond-back : (near : Bool) (d : Cal) (p q : CoefPlace) → (if near then Are d else Beyond p) ≡ Beyond q → (if near then Answered d else Refused Huge) ≡ Refused Huge
-unfolding if◌then◌else◌
+beyond-back : (near : Bool) (d : Cal) (p q : CoefPlace) → (when near then Are d else Beyond p) ≡ Beyond q → (when near then Answered d else Refused Huge) ≡ Refused Huge
+unfolding when◌then◌else◌
 beyond-back true d p q e = let z : ◌≡◌ {A = ℕ} 0 1 = cc in absurd (omega arith)
 beyond-back false d p q e = refl
 
@@ -65,7 +65,7 @@ steps-refused v p e = steps-are v ∙ beyond-back (all_reach v) (nearest_cal v) 
 
 -- ---- which of them is the first
 
-first_next : (v : Float) (vs : List Float) → first_refused (v ∷ vs) ≡ (if in_reach v then suc (first_refused vs) else 0)
+first_next : (v : Float) (vs : List Float) → first_refused (v ∷ vs) ≡ (when in_reach v then suc (first_refused vs) else 0)
 unfolding first_refused q16_of
 first_next v vs = if-of (λ x. passing x (first_refused vs)) (in_reach v) _ _
 
@@ -89,8 +89,8 @@ first-there (v ∷ vs) h = first_of v vs (in_reach v) refl h (first-there vs)
 
 -- ---- one of the six `q16(..)?` ends the call exactly where not all are in reach
 
-turned : (b : Bool) → (if b then false else true) ≡ not b
-unfolding if◌then◌else◌
+turned : (b : Bool) → (when b then false else true) ≡ not b
+unfolding when◌then◌else◌
 turned true = refl
 turned false = refl
 

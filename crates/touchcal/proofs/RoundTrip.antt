@@ -7,7 +7,7 @@ use lib.Ieee.Fits.{down_pos}
 use lib.Ieee.Exact.{HasValue}
 use lib.Ieee.Back.{round_whole}
 use lib.Ieee.Nearest.{div_same}
-use Rattle.panel.specs.Tests.{if◌then◌else◌, ◌and◌}
+use Rattle.panel.specs.Tests.{when◌then◌else◌, ◌and◌}
 use Rattle.panel.proofs.Follow.{follow, if-true, if-false}
 use Rattle.calmap.specs.declared.units.Q16.{Q16}
 use Rattle.calmap.specs.declared.units.Cal.{Cal}
@@ -216,9 +216,9 @@ alone z =
     ∷ []
 
 pub no-further-up : map (λ c. from_f32_of (to_f32_of c)) (alone (pos 8_388_609)) ≡ map (λ c. CalAnswer.Answered c) (alone (pos 8_388_610))
-unfolding from_f32_of steps_of in_steps off_identity to_f32_of out_of q16_of in_reach nearest_step half_away if◌then◌else◌ ◌and◌ add sub mul div lt of_int to_signed
+unfolding from_f32_of steps_of in_steps off_identity to_f32_of out_of q16_of in_reach nearest_step half_away when◌then◌else◌ ◌and◌ add sub mul div lt of_int to_signed
 no-further-up = refl
 
 pub no-further-down : map (λ c. from_f32_of (to_f32_of c)) (alone (neg_ℤ (pos 8_388_609))) ≡ map (λ c. CalAnswer.Answered c) (alone (neg_ℤ (pos 8_388_610)))
-unfolding from_f32_of steps_of in_steps off_identity to_f32_of out_of q16_of in_reach nearest_step half_away if◌then◌else◌ ◌and◌ add sub mul div lt of_int to_signed
+unfolding from_f32_of steps_of in_steps off_identity to_f32_of out_of q16_of in_reach nearest_step half_away when◌then◌else◌ ◌and◌ add sub mul div lt of_int to_signed
 no-further-down = refl

@@ -1,7 +1,7 @@
 -- `fit` by one rule of tenths and by another: the same calls are refused, with the same refusal, and the calibration is the
 -- same; what is told in tenths, and the verdict that hangs on it, is that of each rule. Assumes nothing.
 use Rattle.std.proofs.Common.{◌≡◌, ℕ, Bool, true, false, List, length, take, sym, refl, ap, ◌∙◌, true≢false}
-use Rattle.panel.specs.Tests.{if◌then◌else◌, ◌or◌, ◌<?◌}
+use Rattle.panel.specs.Tests.{when◌then◌else◌, ◌or◌, ◌<?◌}
 use Rattle.panel.specs.Points.{all_on_panel}
 use Rattle.panel.specs.declared.points.Point.{Point}
 use Rattle.panel.specs.declared.refusals.Refusal.TheVariants as Refusal
@@ -19,7 +19,6 @@ use Rattle.touchcal.specs.Solutions.{solved_of}
 use Rattle.touchcal.specs.Fits.{weighed, fitted_by, fit_by}
 use Rattle.touchcal.specs.code.Arrays.{fit_first_by}
 use Rattle.touchcal.specs.declared.solving.Solved.{Solved}
-use Rattle.touchcal.specs.declared.solving.Solved.TheVariants as Solved
 use Rattle.touchcal.specs.declared.fitting.Fit.{Fit}
 use Rattle.touchcal.specs.declared.fitting.FitAnswer.{FitAnswer}
 use Rattle.touchcal.specs.declared.fitting.FitAnswer.TheVariants.{Answered, Refused, Steep}
@@ -38,9 +37,9 @@ module _ (a b : Rule) where
   -- ---- the same refusals
 
   same-weighed : (long : Bool) (ms before : Misses) (c : Cal) (k : CheckAnswer) (x : FitAnswer) → unanswered x ≡ true
-      → weighed c (if long then Resid.Refused Refusal.Long else spread_by a ms) (if long then Resid.Refused Refusal.Long else spread_by a before) k ≡ x
-      → weighed c (if long then Resid.Refused Refusal.Long else spread_by b ms) (if long then Resid.Refused Refusal.Long else spread_by b before) k ≡ x
-  unfolding if◌then◌else◌
+      → weighed c (when long then Resid.Refused Refusal.Long else spread_by a ms) (when long then Resid.Refused Refusal.Long else spread_by a before) k ≡ x
+      → weighed c (when long then Resid.Refused Refusal.Long else spread_by b ms) (when long then Resid.Refused Refusal.Long else spread_by b before) k ≡ x
+  unfolding when◌then◌else◌
   same-weighed true ms before c k x h e = e
   same-weighed false (known ds) (known d0) c (Check.Answered v) x h e = never-answered x _ h e
   same-weighed false (known ds) (known d0) c (Check.Refused s) x h e = e
@@ -55,9 +54,9 @@ module _ (a b : Rule) where
   same-fitted (Solved.Steep p) ps ts x h e = e
 
   same-inside : (long on : Bool) (s : Solved) (ps : List Aim) (ts : List Point) (x : FitAnswer) → unanswered x ≡ true
-      → (if long then Refused Refusal.Long else if on then fitted_by a s ps ts else Refused Refusal.Target) ≡ x
-      → (if long then Refused Refusal.Long else if on then fitted_by b s ps ts else Refused Refusal.Target) ≡ x
-  unfolding if◌then◌else◌
+      → (when long then Refused Refusal.Long else when on then fitted_by a s ps ts else Refused Refusal.Target) ≡ x
+      → (when long then Refused Refusal.Long else when on then fitted_by b s ps ts else Refused Refusal.Target) ≡ x
+  unfolding when◌then◌else◌
   same-inside true on s ps ts x h e = e
   same-inside false true s ps ts x h e = same-fitted s ps ts x h e
   same-inside false false s ps ts x h e = e
@@ -69,8 +68,8 @@ module _ (a b : Rule) where
   -- ---- the same calibration
 
   -- what stands inside the tests that a fit has passed
-  passed : (long on : Bool) (x y : FitAnswer) (f : Fit) → (if long then Refused Refusal.Long else if on then x else Refused Refusal.Target) ≡ Answered f → (if long then Refused Refusal.Long else if on then y else Refused Refusal.Target) ≡ y
-  unfolding if◌then◌else◌
+  passed : (long on : Bool) (x y : FitAnswer) (f : Fit) → (when long then Refused Refusal.Long else when on then x else Refused Refusal.Target) ≡ Answered f → (when long then Refused Refusal.Long else when on then y else Refused Refusal.Target) ≡ y
+  unfolding when◌then◌else◌
   passed true on x y f e = never Refusal.Long f e
   passed false true x y f e = refl
   passed false false x y f e = never Refusal.Target f e
@@ -84,8 +83,8 @@ module _ (a b : Rule) where
   -- ---- the same of the first pairs and targets of arrays
 
   module _ (n : ℕ) (ps : List Aim) (m : ℕ) (ts : List Point) where
-    first-refused : (long : Bool) (x : FitAnswer) → unanswered x ≡ true → (if long then Refused Refusal.Long else fit_by a (take n ps) (take m ts)) ≡ x → (if long then Refused Refusal.Long else fit_by b (take n ps) (take m ts)) ≡ x
-    unfolding if◌then◌else◌
+    first-refused : (long : Bool) (x : FitAnswer) → unanswered x ≡ true → (when long then Refused Refusal.Long else fit_by a (take n ps) (take m ts)) ≡ x → (when long then Refused Refusal.Long else fit_by b (take n ps) (take m ts)) ≡ x
+    unfolding when◌then◌else◌
     first-refused true x h e = e
     first-refused false x h e = same-refused (take n ps) (take m ts) x h e
 
@@ -93,10 +92,10 @@ module _ (a b : Rule) where
     unfolding fit_first_by
     same-refused-first x h e = first-refused (longest <? n or longest <? m) x h e
 
-    first-cal : (l l' : Bool) (f : Fit) → (if l or l' then Refused Refusal.Long else fit_by a (take n ps) (take m ts)) ≡ Answered f
-        → (if l or l' then Refused Refusal.Long else fit_by b (take n ps) (take m ts))
-        ≡ weighed f.cal (if l then Resid.Refused Refusal.Long else resid_by b f.cal (take n ps)) (if l then Resid.Refused Refusal.Long else resid_by b identity (take n ps)) (if l' then Check.Refused Refusal.Long else check_of f.cal (take m ts))
-    unfolding if◌then◌else◌ ◌or◌
+    first-cal : (l l' : Bool) (f : Fit) → (when l or l' then Refused Refusal.Long else fit_by a (take n ps) (take m ts)) ≡ Answered f
+        → (when l or l' then Refused Refusal.Long else fit_by b (take n ps) (take m ts))
+        ≡ weighed f.cal (when l then Resid.Refused Refusal.Long else resid_by b f.cal (take n ps)) (when l then Resid.Refused Refusal.Long else resid_by b identity (take n ps)) (when l' then Check.Refused Refusal.Long else check_of f.cal (take m ts))
+    unfolding when◌then◌else◌ ◌or◌
     first-cal true l' f e = never Refusal.Long f e
     first-cal false true f e = never Refusal.Long f e
     first-cal false false f e = same-cal (take n ps) (take m ts) f e

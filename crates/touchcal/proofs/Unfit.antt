@@ -2,7 +2,7 @@
 -- them anywhere else. Assumes nothing.
 use Rattle.std.proofs.Common.{◌≡◌, ℕ, ◌<◌, Bool, true, false, not, List, length, sym, refl, ap, ◌∙◌, arith}
 use lib.Ieee.{Float, nan, inf, fin, lt}
-use Rattle.panel.specs.Tests.{if◌then◌else◌, ◌and◌, ◌or◌, ◌<?◌}
+use Rattle.panel.specs.Tests.{when◌then◌else◌, ◌and◌, ◌or◌, ◌<?◌}
 use Rattle.panel.specs.Points.{all_on_panel}
 use Rattle.panel.specs.declared.points.Point.{Point}
 use Rattle.panel.specs.declared.refusals.Refusal.TheVariants as Refusal
@@ -13,12 +13,12 @@ use Rattle.calmap.specs.Resids.{Misses, known, wide, misses_of}
 use Rattle.calmap.specs.declared.units.Cal.{Cal}
 use Rattle.calmap.specs.declared.units.Aim.{Aim}
 use Rattle.touchcal.specs.Binary32.{◌⊗◌, ◌⊲◌}
-use Rattle.touchcal.specs.Sizes.{thin32, least_sum32}
+use Rattle.touchcal.specs.Sizes.{thin32}
 use Rattle.touchcal.specs.Floats.{identity}
 use Rattle.touchcal.specs.Moments.{moments_of}
 use Rattle.touchcal.specs.Solutions.{det_of, spreads, in_order}
 use Rattle.touchcal.specs.Fits.{fit_of, told_fit}
-use Rattle.touchcal.specs.Nones.{rust_line, rust_none, asked, Said, said, how_many, First}
+use Rattle.touchcal.specs.Nones.{rust_line, rust_none, asked, said, how_many, First}
 use Rattle.touchcal.specs.declared.floats.CoefPlace.{CoefPlace}
 use Rattle.touchcal.specs.declared.moments.Sums.{Sums}
 use Rattle.touchcal.specs.declared.solving.Solved.TheVariants.{Is, Few, Line}
@@ -68,7 +68,7 @@ measured (known ds) wide = 3
 measured wide before = 3
 
 abbrev number_by : Bool → Bool → Bool → Bool → Bool → ℕ → ℕ
-number_by long on f s n m = if long then 4 else if on then (if f then 6 else if s then (if n then m else 17) else 16) else 5
+number_by long on f s n m = when long then 4 else when on then (when f then 6 else when s then (when n then m else 17) else 16) else 5
 
 measured-tells : (c : Cal) (ts : List Point) (ms before : Misses) → (by_misses c ts ms before).number ≡ measured ms before
 measured-tells c ts (known ds) (known before) = refl
@@ -78,7 +78,7 @@ measured-tells c ts wide before = refl
 say : (long on f s n : Bool) (ms before : Misses)
     → said (number_by long on f s n (measured ms before))
     ≡ record { few = (not long and on) and f; line = (not long and on) and not f and not s; steep = (not long and on) and not f and s and not n }
-unfolding if◌then◌else◌ ◌and◌
+unfolding when◌then◌else◌ ◌and◌
 say true on f s n ms before = refl
 say false false f s n ms before = refl
 say false true true s n ms before = refl
@@ -89,8 +89,8 @@ say false true false true true (known ds) wide = refl
 say false true false true true wide before = refl
 
 -- the Rust's `None` is exactly one of the three
-counted : (a f s n : Bool) → how_many (record { few = a and f; line = a and not f and not s; steep = a and not f and s and not n }) ≡ (if a and (f or not s or not n) then 1 else 0)
-unfolding if◌then◌else◌ ◌and◌ ◌or◌
+counted : (a f s n : Bool) → how_many (record { few = a and f; line = a and not f and not s; steep = a and not f and s and not n }) ≡ (when a and (f or not s or not n) then 1 else 0)
+unfolding when◌then◌else◌ ◌and◌ ◌or◌
 counted false f s n = refl
 counted true true s n = refl
 counted true false false n = refl
@@ -100,7 +100,7 @@ counted true false true false = refl
 -- only a coefficient out of reach is 17
 seventeen : {X : Type 0} (long on f s n : Bool) (ms before : Misses) → number_by long on f s n (measured ms before) ≡ 17
     → (long ≡ false → on ≡ true → f ≡ false → s ≡ true → n ≡ false → X) → X
-unfolding if◌then◌else◌
+unfolding when◌then◌else◌
 seventeen true on f s n ms before e go = absurd (omega arith)
 seventeen false false f s n ms before e go = absurd (omega arith)
 seventeen false true true s n ms before e go = absurd (omega arith)
@@ -118,9 +118,9 @@ module _ (ps : List Aim) (ts : List Point) where
   taps = misses_of (nearest_cal (deltas ps)) ps
 
   number_by-measured : (l on f s n : Bool) (p : CoefPlace)
-      → (if l then tells 4 zeros else if on then by_solution (if f then Few else if s then (if n then Is (nearest_cal (deltas ps)) else Solved.Steep p) else Line) ps ts else tells 5 zeros).number
+      → (when l then tells 4 zeros else when on then by_solution (when f then Few else when s then (when n then Is (nearest_cal (deltas ps)) else Solved.Steep p) else Line) ps ts else tells 5 zeros).number
       ≡ number_by l on f s n (measured taps (misses_of identity ps))
-  unfolding if◌then◌else◌
+  unfolding when◌then◌else◌
   number_by-measured true on f s n p = refl
   number_by-measured false false f s n p = refl
   number_by-measured false true true s n p = refl
@@ -138,11 +138,11 @@ module _ (ps : List Aim) (ts : List Point) where
   why-exactly = rw fit-number (say long (all_on_panel ts) (few ps) (spread ps) (near ps) taps (misses_of identity ps))
 
   -- "Where the Rust says `None`, exactly one of these is said", and nowhere else is any
-  pub none-exactly : how_many (said (told_fit (fit_of ps ts)).number) ≡ (if asked ps ts and rust_none ps then 1 else 0)
+  pub none-exactly : how_many (said (told_fit (fit_of ps ts)).number) ≡ (when asked ps ts and rust_none ps then 1 else 0)
   none-exactly =
       ap how_many why-exactly
       ∙ counted (asked ps ts) (few ps) (spread ps) (near ps)
-      ∙ ap (λ (b : Bool). if asked ps ts and (few ps or b) then 1 else 0)
+      ∙ ap (λ (b : Bool). when asked ps ts and (few ps or b) then 1 else 0)
       (ap (λ (l : Bool). l or not (near ps)) (line-is (moments_of ps).sums) ∙ ap (λ (n : Bool). rust_line (moments_of ps).sums or n) (sym (steep-is (deltas ps))))
 
   -- STEEP always carries a place, that of the first coefficient out of reach

@@ -6,7 +6,7 @@
 -- [2]: NOFIT divides, "6 becomes FEW, 16 LINE, 17 STEEP, in that order, after TARGET and before WIDE; STEEP alone carries a
 -- value, the coefficient's place". It is stated over the rule of tenths that `resid` goes by (calmap's Distances).
 use Rattle.std.specs.Prelude.{List, length}
-use Rattle.panel.specs.Tests.{if◌then◌else◌, ◌or◌, ◌<?◌}
+use Rattle.panel.specs.Tests.{when◌then◌else◌, ◌or◌, ◌<?◌}
 use Rattle.panel.specs.Points.{all_on_panel}
 use Rattle.panel.specs.Refusals.{Told, answered, refused}
 use Rattle.panel.specs.declared.points.Point.{Point}
@@ -23,7 +23,6 @@ use Rattle.calmap.specs.declared.residuals.Spread.{Spread}
 use Rattle.calmap.specs.declared.residuals.ResidAnswer.{ResidAnswer}
 use Rattle.calmap.specs.declared.residuals.ResidAnswer.TheVariants as Resid
 use Rattle.calmap.specs.declared.limits.Verdict.{Verdict}
-use Rattle.calmap.specs.declared.limits.Verdict.TheVariants as Verdict
 use Rattle.calmap.specs.declared.limits.CheckAnswer.{CheckAnswer}
 use Rattle.calmap.specs.declared.limits.CheckAnswer.TheVariants as Check
 use Rattle.touchcal.specs.Sizes.{resid_limit}
@@ -31,14 +30,13 @@ use Rattle.touchcal.specs.Floats.{identity}
 use Rattle.touchcal.specs.Solutions.{place, solved_of}
 use Rattle.touchcal.specs.declared.floats.CoefPlace.{CoefPlace}
 use Rattle.touchcal.specs.declared.solving.Solved.{Solved}
-use Rattle.touchcal.specs.declared.solving.Solved.TheVariants as Solved
 use Rattle.touchcal.specs.declared.fitting.Fit.{Fit}
 use Rattle.touchcal.specs.declared.fitting.FitAnswer.{FitAnswer}
 use Rattle.touchcal.specs.declared.fitting.FitAnswer.TheVariants.{Answered, Refused, Steep}
 
 -- the verdict of `check`, and then the residuals
 abbrev pub judged_by : Verdict → Tenths → Verdict
-judged_by Verdict.Pass max = if over resid_limit max then Verdict.Resid else Verdict.Pass
+judged_by Verdict.Pass max = when over resid_limit max then Verdict.Resid else Verdict.Pass
 judged_by Verdict.Scale max = Verdict.Scale
 judged_by Verdict.Shift max = Verdict.Shift
 judged_by Verdict.Resid max = Verdict.Resid
@@ -63,8 +61,8 @@ fitted_by rule (Solved.Steep p) ps ts = Steep p
 
 unfoldable pub fit_by : Rule → List Aim → List Point → FitAnswer
 fit_by rule ps ts =
-    if longest <? length ps or longest <? length ts then Refused Refusal.Long
-    else if all_on_panel ts then fitted_by rule (solved_of ps) ps ts
+    when longest <? length ps or longest <? length ts then Refused Refusal.Long
+    else when all_on_panel ts then fitted_by rule (solved_of ps) ps ts
     else Refused Refusal.Target
 
 -- by the rule of the calls

@@ -4,7 +4,7 @@
 -- (nearest, ties to even), / 65536, + 1 for a and e, + 0 else; `from_f32` takes that off, then `q16`." "7 HUGE: Rust
 -- `from_f32`, or `q16` by itself, answers `None`".
 use Rattle.std.specs.Prelude.{Bool, ℤ, pos, Float}
-use Rattle.panel.specs.Tests.{if◌then◌else◌, ◌and◌}
+use Rattle.panel.specs.Tests.{when◌then◌else◌, ◌and◌}
 use Rattle.panel.specs.Refusals.{Told, answered, refused}
 use Rattle.panel.specs.declared.refusals.Refusal.TheVariants.{Huge}
 use Rattle.calmap.specs.declared.units.Q16.{Q16}
@@ -13,9 +13,7 @@ use Rattle.touchcal.specs.Binary32.{◌⊕◌, ◌⊖◌, ◌⊗◌, ◌⊘◌, 
 use Rattle.touchcal.specs.Sizes.{zero32, half32, one32, scale32, most32, least32}
 use Rattle.touchcal.specs.declared.floats.Coefs.{Coefs}
 use Rattle.touchcal.specs.declared.floats.Q16Answer.{Q16Answer}
-use Rattle.touchcal.specs.declared.floats.Q16Answer.TheVariants as Q16Answer
 use Rattle.touchcal.specs.declared.floats.CalAnswer.{CalAnswer}
-use Rattle.touchcal.specs.declared.floats.CalAnswer.TheVariants as CalAnswer
 
 -- "s = v·65536 strictly between ±2.0e9": no NaN is
 unfoldable pub in_reach : Float → Bool
@@ -23,13 +21,13 @@ in_reach v = (least32 ⊲ v ⊗ scale32) and (v ⊗ scale32 ⊲ most32)
 
 -- "s + 0.5 or (s < 0) s - 0.5 in f32"
 unfoldable pub half_away : Float → Float
-half_away s = if s ⊲ zero32 then s ⊖ half32 else s ⊕ half32
+half_away s = when s ⊲ zero32 then s ⊖ half32 else s ⊕ half32
 
 unfoldable pub nearest_step : Float → Q16
 nearest_step v = record { 0 = cut (half_away (v ⊗ scale32)) }
 
 unfoldable pub q16_of : Float → Q16Answer
-q16_of v = if in_reach v then Q16Answer.Answered (nearest_step v) else Q16Answer.Refused Huge
+q16_of v = when in_reach v then Q16Answer.Answered (nearest_step v) else Q16Answer.Refused Huge
 
 abbrev pub told_q16 : Q16Answer → Told Q16
 told_q16 (Q16Answer.Answered q) = answered q

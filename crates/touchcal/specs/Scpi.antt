@@ -3,16 +3,14 @@
 -- "`scpi_put` with HUGE is the exception: as in the Rust it clears what was pending. `scpi_take` gives it once; with
 -- nothing pending it answers so, number 0." "`static mut PENDING` [becomes] a record by value".
 use Rattle.std.specs.Prelude.{Bool, true, false}
-use Rattle.panel.specs.Tests.{if◌then◌else◌}
+use Rattle.panel.specs.Tests.{when◌then◌else◌}
 use Rattle.panel.specs.Refusals.{Told, answered, refused}
 use Rattle.calmap.specs.declared.units.Cal.{Cal}
 use Rattle.touchcal.specs.Floats.{identity, from_f32_of}
 use Rattle.touchcal.specs.declared.floats.Coefs.{Coefs}
 use Rattle.touchcal.specs.declared.floats.CalAnswer.{CalAnswer}
-use Rattle.touchcal.specs.declared.floats.CalAnswer.TheVariants as CalAnswer
 use Rattle.touchcal.specs.declared.scpi.Pending.{Pending}
 use Rattle.touchcal.specs.declared.scpi.PutAnswer.{PutAnswer}
-use Rattle.touchcal.specs.declared.scpi.PutAnswer.TheVariants as PutAnswer
 use Rattle.touchcal.specs.declared.scpi.TakeAnswer.{TakeAnswer}
 use Rattle.touchcal.specs.declared.scpi.TakeAnswer.TheVariants.{Taken, Nothing}
 
@@ -29,7 +27,7 @@ unfoldable pub put_of : Pending → Coefs → PutAnswer
 put_of p v = kept (from_f32_of v)
 
 unfoldable pub take_of : Pending → TakeAnswer
-take_of p = if p.set then Taken p.cal clear else Nothing clear
+take_of p = when p.set then Taken p.cal clear else Nothing clear
 
 -- the number, and what is pending after the call
 abbrev pub told_put : PutAnswer → Told Pending

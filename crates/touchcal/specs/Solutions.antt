@@ -4,7 +4,7 @@
 -- fewer than three pairs, the spread test failing (line, or either sum under 1), a coefficient beyond `q16`, and for that one,
 -- which of the six came first in order a to f. Where the Rust says `None`, exactly one of these is said."
 use Rattle.std.specs.Prelude.{ℕ, suc, Bool, not, List, [], ◌∷◌, length, Float}
-use Rattle.panel.specs.Tests.{if◌then◌else◌, ◌and◌, ◌<?◌}
+use Rattle.panel.specs.Tests.{when◌then◌else◌, ◌and◌, ◌<?◌}
 use Rattle.calmap.specs.declared.units.Aim.{Aim}
 use Rattle.touchcal.specs.Binary32.{◌⊖◌, ◌⊗◌, ◌⊘◌, ◌⊲◌}
 use Rattle.touchcal.specs.Sizes.{one32, thin32, least_sum32, fewest}
@@ -12,9 +12,7 @@ use Rattle.touchcal.specs.Floats.{q16_of, steps_of}
 use Rattle.touchcal.specs.Moments.{moments_of}
 use Rattle.touchcal.specs.declared.floats.Coefs.{Coefs}
 use Rattle.touchcal.specs.declared.floats.CalAnswer.{CalAnswer}
-use Rattle.touchcal.specs.declared.floats.CalAnswer.TheVariants as CalAnswer
 use Rattle.touchcal.specs.declared.floats.Q16Answer.{Q16Answer}
-use Rattle.touchcal.specs.declared.floats.Q16Answer.TheVariants as Q16Answer
 use Rattle.touchcal.specs.declared.floats.CoefPlace.{CoefPlace}
 use Rattle.touchcal.specs.declared.floats.Steps.{Steps}
 use Rattle.touchcal.specs.declared.floats.Steps.TheVariants.{Are, Beyond}
@@ -85,6 +83,6 @@ of_steps (Beyond p) = Steep p
 unfoldable pub solved_of : List Aim → Solved
 solved_of ps =
     let w = moments_of ps in
-    if length ps <? fewest then Few
-    else if spreads w.sums then of_steps (stepped_of (deltas_of (coefs_of w)))
+    when length ps <? fewest then Few
+    else when spreads w.sums then of_steps (stepped_of (deltas_of (coefs_of w)))
     else Line

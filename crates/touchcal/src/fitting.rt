@@ -16,7 +16,7 @@ const MAX_RESID: Tenths = Tenths(250);
 
 // A fit and its residuals: mean and max of the taps through the fitted map, before the mean without
 // a calibration.
-#[derive(Drop)]
+#[derive(Clone, Copy)]
 pub struct Fit {
     pub cal: Cal,
     pub mean: Tenths,
@@ -26,7 +26,7 @@ pub struct Fit {
 }
 
 // STEEP alone carries a value, and so it stands by itself: `Refused` never says it.
-#[derive(Drop)]
+#[derive(Clone, Copy)]
 pub enum FitAnswer {
     Answered(Fit),
     Refused(Refusal),

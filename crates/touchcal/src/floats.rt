@@ -20,21 +20,21 @@ const TOO_MANY: f32 = 2.0e9;
 const FIRST: u32 = 8388608;
 
 // What q16 answers.
-#[derive(Drop)]
+#[derive(Clone, Copy)]
 pub enum Q16Answer {
     Answered(Q16),
     Refused(Refusal),
 }
 
 // What from_f32 answers.
-#[derive(Drop)]
+#[derive(Clone, Copy)]
 pub enum CalAnswer {
     Answered(Cal),
     Refused(Refusal),
 }
 
 // The coefficients as numbers: x' = a x + b y + c, y' = d x + e y + f.
-#[derive(Drop)]
+#[derive(Clone, Copy)]
 pub struct Coefs {
     pub a: f32,
     pub b: f32,
@@ -45,11 +45,11 @@ pub struct Coefs {
 }
 
 // The place of a coefficient: 0 for a to 5 for f, as c0 to c5 are counted.
-#[derive(Drop)]
+#[derive(Clone, Copy)]
 pub struct CoefPlace(pub u8);
 
 // Six coefficients in steps, or the first of them, a to f, that has none.
-#[derive(Drop)]
+#[derive(Clone, Copy)]
 pub(crate) enum Steps {
     Are(Cal),
     Beyond(CoefPlace),

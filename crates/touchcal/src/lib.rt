@@ -1,6 +1,8 @@
 // The touch calibration, the half that is floats: coefficients as f32 and as Q16 steps, the pending
 // values of the command, and the least-squares fit of taps to targets. The half that is integers,
 // the map itself and its checks, is crate calmap.
+#![tactic(auto)]
+
 mod fitting;
 mod floats;
 mod lists;

@@ -1,5 +1,4 @@
-// The fit of lent lists: it takes them apart, which is proved by hand, and leaves the rest to the
-// functions over arrays by value.
+// The fit of lent lists: it takes them apart and leaves the rest to the functions over arrays by value.
 ghost use Rattle.std.specs.Prelude.{◌≡◌};
 ghost use Rattle.calmap.specs.Resids.{pairs_of};
 ghost use Rattle.touchcal.specs.Fits.{fit_of};

@@ -7,14 +7,14 @@ ghost use Rattle.touchcal.specs.Moments.{place_of, add_pair, totals_of, shared_o
 use calmap::{Aim, MAX_TAPS, Tap};
 
 // A tap in floats.
-#[derive(Drop)]
+#[derive(Clone, Copy)]
 pub struct Place {
     pub x: f32,
     pub y: f32,
 }
 
 // Of the raw taps and of their targets, coordinate by coordinate: the totals, and then the means.
-#[derive(Drop)]
+#[derive(Clone, Copy)]
 pub struct Means {
     pub mx: f32,
     pub my: f32,
@@ -23,7 +23,7 @@ pub struct Means {
 }
 
 // Sums of products about the means: x and y are the raw tap's, u and v its target's.
-#[derive(Drop)]
+#[derive(Clone, Copy)]
 pub struct Sums {
     pub sxx: f32,
     pub sxy: f32,
@@ -35,7 +35,7 @@ pub struct Sums {
 }
 
 // All that a fit takes from its pairs.
-#[derive(Drop)]
+#[derive(Clone, Copy)]
 pub struct Moments {
     pub means: Means,
     pub sums: Sums,

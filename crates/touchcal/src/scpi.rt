@@ -9,7 +9,7 @@ use calmap::Cal;
 use panel::Refusal;
 
 // What was read and is not yet taken: a calibration if `set`.
-#[derive(Drop)]
+#[derive(Clone, Copy)]
 pub struct Pending {
     pub set: bool,
     pub cal: Cal,
@@ -17,14 +17,14 @@ pub struct Pending {
 
 // What scpi_put answers, with what is pending after it. It alone alters something that it refuses:
 // what was pending is cleared.
-#[derive(Drop)]
+#[derive(Clone, Copy)]
 pub enum PutAnswer {
     Answered(Pending),
     Refused(Refusal, Pending),
 }
 
 // What scpi_take answers, with what is pending after it.
-#[derive(Drop)]
+#[derive(Clone, Copy)]
 pub enum TakeAnswer {
     Taken(Cal, Pending),
     Nothing(Pending),

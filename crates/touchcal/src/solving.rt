@@ -18,7 +18,7 @@ const THIN: f32 = 1e-3;
 const LEAST: f32 = 1.0;
 
 // What pairs come to: a calibration, or why they have none.
-#[derive(Drop)]
+#[derive(Clone, Copy)]
 pub enum Solved {
     Is(Cal),
     // Fewer than three pairs.

@@ -1,7 +1,7 @@
 -- `fit` of arrays by value with counts, and of what calmap holds of lent lists. proofs/Firsts.antt has that `fit` of what is
 -- held is that of the lists (`fit-of-held`).
 use Rattle.std.specs.Prelude.{ℕ, List, take}
-use Rattle.panel.specs.Tests.{if◌then◌else◌, ◌or◌, ◌<?◌}
+use Rattle.panel.specs.Tests.{when◌then◌else◌, ◌or◌, ◌<?◌}
 use Rattle.panel.specs.declared.points.Point.{Point}
 use Rattle.panel.specs.declared.refusals.Refusal.TheVariants.{Long}
 use Rattle.calmap.specs.Distances.{Rule, tenths_of}
@@ -13,7 +13,6 @@ use Rattle.calmap.specs.declared.arrays.Points.{Points}
 use Rattle.touchcal.specs.Floats.{identity}
 use Rattle.touchcal.specs.Fits.{fit_by}
 use Rattle.touchcal.specs.declared.solving.Solved.{Solved}
-use Rattle.touchcal.specs.declared.solving.Solved.TheVariants as Solved
 use Rattle.touchcal.specs.declared.fitting.FitAnswer.{FitAnswer}
 use Rattle.touchcal.specs.declared.fitting.FitAnswer.TheVariants.{Refused}
 
@@ -27,7 +26,7 @@ cal_or_identity (Solved.Steep p) = identity
 -- the first n pairs and the first m targets, of arrays that hold 64
 unfoldable pub fit_first_by : Rule → ℕ → List Aim → ℕ → List Point → FitAnswer
 fit_first_by rule n ps m ts =
-    if longest <? n or longest <? m then Refused Long
+    when longest <? n or longest <? m then Refused Long
     else fit_by rule (take n ps) (take m ts)
 
 abbrev pub fit_first : ℕ → List Aim → ℕ → List Point → FitAnswer
@@ -35,5 +34,5 @@ fit_first = fit_first_by tenths_of
 
 unfoldable pub fit_held : Aims → Points → FitAnswer
 fit_held a t =
-    if a.long or t.long then Refused Long
+    when a.long or t.long then Refused Long
     else fit_first a.n a.list t.n t.list
