@@ -1,7 +1,7 @@
 -- Computed: a fit that passes by the old tenths, and that `over-the-limit` of touchcal's Cases.antt has as Resid. Assumes nothing.
 use mathlib.Core.Path.{◌≡◌, refl}
 use lib.Ieee.{of_bits, add, sub, mul, div, lt, of_int, to_signed}
-use Rattle.panel.specs.Tests.{if◌then◌else◌, ◌and◌, ◌or◌}
+use Rattle.panel.specs.Tests.{when◌then◌else◌, ◌and◌, ◌or◌}
 use Rattle.panel.specs.Points.{on_panel, all_on_panel}
 use Rattle.calmap.specs.Wide.{in32, in16, down}
 use Rattle.calmap.specs.Maps.{line, line_fits, apply_of}
@@ -20,5 +20,5 @@ use Rattle.touchcal.proofs.Cases.{opposite, shifted, target}
 use Rattle.oldtenths.specs.OldTenths.{old_tenths_of}
 
 pub passed-before : fit_by old_tenths_of (opposite 50 5) target ≡ Answered (record { cal = shifted 1_638_400 163_840; mean = tenths 250; max = tenths 250; before = tenths 250; verdict = Pass })
-unfolding fit_by solved_of stepped_of moments_of place_of add_pair shared_of add_about det_of spreads coefs_of deltas_of steps_of in_steps q16_of in_reach nearest_step half_away resid_by misses_of miss_of largest apply_of line line_fits in32 in16 down digit root_by squared gap_of old_tenths_of root_of check_of verdict_of scale_holds mild near stays all_stay on_panel all_on_panel sum_of mean_of if◌then◌else◌ ◌and◌ ◌or◌ of_bits add sub mul div lt of_int to_signed
+unfolding fit_by solved_of stepped_of moments_of place_of add_pair shared_of add_about det_of spreads coefs_of deltas_of steps_of in_steps q16_of in_reach nearest_step half_away resid_by misses_of miss_of largest apply_of line line_fits in32 in16 down digit root_by squared gap_of old_tenths_of root_of check_of verdict_of scale_holds mild near stays all_stay on_panel all_on_panel sum_of mean_of when◌then◌else◌ ◌and◌ ◌or◌ of_bits add sub mul div lt of_int to_signed
 passed-before = refl

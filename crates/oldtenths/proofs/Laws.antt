@@ -4,7 +4,7 @@ use Prim.Native.Nat.{ℕ, zero, suc, ◌+◌, ◌*◌, ◌/◌, ◌^◌, ◌≤�
 use mathlib.Core.Path.{◌≡◌, refl, sym, ap, ◌∙◌}
 use native.Mathlib.Nat.{le_refl, le_trans, lt_of_lt_of_le}
 use native.Mathlib.Omega.{arith}
-use Rattle.panel.specs.Tests.{if◌then◌else◌}
+use Rattle.panel.specs.Tests.{when◌then◌else◌}
 use Rattle.calmap.specs.code.Checked.{farthest, farthest_tenths}
 use Rattle.calmap.specs.Distances.{tenths_of}
 use Rattle.calmap.specs.Roots.{digit, root_by, root_of}
@@ -52,14 +52,14 @@ same-at-roots r h =
 -- Where they begin to differ.
 
 pub same-below-3 : (n : ℕ) → n < 3 → old_tenths_of n ≡ tenths_of n
-unfolding old_tenths_of tenths_of root_of root_by digit if◌then◌else◌
+unfolding old_tenths_of tenths_of root_of root_by digit when◌then◌else◌
 same-below-3 zero h = refl
 same-below-3 (suc zero) h = refl
 same-below-3 (suc (suc zero)) h = refl
 same-below-3 (suc (suc (suc n))) h = absurd (omega arith)
 
 pub apart-at-3 : (old_tenths_of 3 ≡ tenths 0) × (tenths_of 3 ≡ tenths 1)
-unfolding old_tenths_of tenths_of root_of root_by digit if◌then◌else◌
+unfolding old_tenths_of tenths_of root_of root_by digit when◌then◌else◌
 apart-at-3 = (refl, refl)
 
 -- 3 is the squared distance of no two places; 13, which is 9 and 4, is the first at which they differ
@@ -67,7 +67,7 @@ four-away : {X : Type 0} (n b : ℕ) → n + suc (suc (suc (suc b))) * suc (suc 
 four-away n b h = absurd (omega (arith, square_le {a = 4} {b = suc (suc (suc (suc b)))} (omega arith)))
 
 pub same-below-13 : (a b : ℕ) → a * a + b * b < 13 → old_tenths_of (a * a + b * b) ≡ tenths_of (a * a + b * b)
-unfolding old_tenths_of tenths_of root_of root_by digit if◌then◌else◌
+unfolding old_tenths_of tenths_of root_of root_by digit when◌then◌else◌
 same-below-13 zero zero h = refl
 same-below-13 zero (suc zero) h = refl
 same-below-13 zero (suc (suc zero)) h = refl
@@ -91,5 +91,5 @@ same-below-13 (suc (suc (suc zero))) (suc (suc (suc (suc b)))) h = four-away (9)
 same-below-13 (suc (suc (suc (suc a)))) b h = four-away (b * b) a (omega arith)
 
 pub apart-at-13 : (old_tenths_of 13 ≡ tenths 1) × (tenths_of 13 ≡ tenths 2)
-unfolding old_tenths_of tenths_of root_of root_by digit if◌then◌else◌
+unfolding old_tenths_of tenths_of root_of root_by digit when◌then◌else◌
 apart-at-13 = (refl, refl)

@@ -8,9 +8,8 @@ use native.Mathlib.Nat.{le_trans, div-mul-le_self, le-div_iff_mul-le, add-div_ri
 use native.Mathlib.Omega.{arith}
 use lib.ListN.{length, length-map}
 use Rattle.panel.proofs.Laws.{and_left, and_right}
-use Rattle.panel.specs.Tests.{if◌then◌else◌, ◌<?◌}
+use Rattle.panel.specs.Tests.{when◌then◌else◌, ◌<?◌}
 use Rattle.panel.specs.declared.refusals.Refusal.{Refusal}
-use Rattle.panel.specs.declared.refusals.Refusal.TheVariants as Refusal
 use Rattle.calmap.proofs.Bounds.{squared-reach}
 use Rattle.calmap.specs.Distances.{squared, gap_of, tenths_of}
 use Rattle.calmap.specs.Maps.{apply_of}
@@ -41,8 +40,8 @@ data Reached : List ℕ → Type 0 where
   none : Reached []
   more : {d2 : ℕ} {ds : List ℕ} → d2 < 2 ^ 64 → Reached ds → Reached (d2 ∷ ds)
 
-gap-reached : (b : Bool) (n d2 : ℕ) → (b ≡ true → n ≤ 2 ^ 63) → if◌then◌else◌ b (Squared n) Wide ≡ Squared d2 → d2 < 2 ^ 64
-unfolding if◌then◌else◌
+gap-reached : (b : Bool) (n d2 : ℕ) → (b ≡ true → n ≤ 2 ^ 63) → when◌then◌else◌ b (Squared n) Wide ≡ Squared d2 → d2 < 2 ^ 64
+unfolding when◌then◌else◌
 gap-reached true n d2 f e = let q : n ≡ d2 = cc in subst (λ (k : ℕ). k < 2 ^ 64) q (omega (arith, f refl))
 gap-reached false n d2 f e = let z : ◌≡◌ {A = ℕ} 0 1 = cc in absurd (omega arith)
 
@@ -114,9 +113,9 @@ never : {X : Type 0} (r : Refusal) (s : Spread) → Refused r ≡ Answered s →
 never r s e = let z : ◌≡◌ {A = ℕ} 0 1 = cc in absurd (omega arith)
 
 apart : (long : Bool) (ms : Misses) (s t : Spread) → AllReached ms
-    → if◌then◌else◌ long (Refused Refusal.Long) (spread_by old_tenths_of ms) ≡ Answered s → if◌then◌else◌ long (Refused Refusal.Long) (spread_by tenths_of ms) ≡ Answered t
+    → when◌then◌else◌ long (Refused Refusal.Long) (spread_by old_tenths_of ms) ≡ Answered s → when◌then◌else◌ long (Refused Refusal.Long) (spread_by tenths_of ms) ≡ Answered t
     → OneMore s.mean t.mean × OneMore s.max t.max
-unfolding if◌then◌else◌
+unfolding when◌then◌else◌
 apart true ms s t r e f = never Refusal.Long s e
 apart false (known ds) s t r e f =
     let old = map old_tenths_of ds in
