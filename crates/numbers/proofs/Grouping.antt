@@ -10,7 +10,6 @@ use lib.ListN.{length, drop, get_or, drop_of_length-le}
 use lib.Seq.{drop-cons}
 use borrow.Author.Tests.{eqb-true, eqb-false, ltb-false, leb-true, leb-false, lt-ltb, le-ltb, eq-eqb, ne_eqb}
 use Rattle.panel.proofs.Follow.{follow, and-true, and-false, if-know, if-two}
-use Rattle.panel.specs.Tests.{◌and◌}
 use Rattle.panel.specs.declared.refusals.Refusal.TheVariants.{Cut}
 use Rattle.numbers.specs.code.Groups.{rest_end, with_group, groups_at, judged_as}
 use Rattle.numbers.specs.Numbers.{Groups, whole, endless, early, after, groups_in, value_of, ends_in_zero, needless, judged, stopped, number_at, number_from}

@@ -8,7 +8,7 @@ use lib.ListN.{length, take, drop}
 use Rattle.panel.proofs.Follow.{if-of, if-true}
 use Rattle.panel.proofs.Promises.{one_answer}
 use Rattle.panel.specs.Refusals.{Told}
-use Rattle.panel.specs.Tests.{if◌then◌else◌, ◌≤?◌, ◌<?◌}
+use Rattle.panel.specs.Tests.{when◌then◌else◌, ◌≤?◌, ◌<?◌}
 use Rattle.numbers.specs.Numbers.{whole, endless, early, bytes_of, value_of, needless, judged, number_from, told_to}
 use Rattle.numbers.specs.Writing.{wrote_of, written_of, told_write}
 use Rattle.numbers.specs.declared.reading.Cursor.{Cursor}
@@ -26,18 +26,18 @@ module _ (at most : ℕ) where
   pub early-tells : told_to (judged at most early) ≡ tells 9 at
   early-tells = refl
 
-  pub whole_tells : (gs : List ℕ) → told_to (judged at most (whole gs)) ≡ if◌then◌else◌ (needless gs) (tells 10 at) (if◌then◌else◌ (most <? value_of gs) (tells 11 at) (tells 0 (at + length gs)))
-  whole_tells gs = if-of told_to (needless gs) _ _ ∙ ap (λ (t : Told ℕ). if◌then◌else◌ (needless gs) (tells 10 at) t) (if-of told_to _ _ _)
+  pub whole_tells : (gs : List ℕ) → told_to (judged at most (whole gs)) ≡ when◌then◌else◌ (needless gs) (tells 10 at) (when◌then◌else◌ (most <? value_of gs) (tells 11 at) (tells 0 (at + length gs)))
+  whole_tells gs = if-of told_to (needless gs) _ _ ∙ ap (λ (t : Told ℕ). when◌then◌else◌ (needless gs) (tells 10 at) t) (if-of told_to _ _ _)
 
 -- ROOM, 14, exactly for bytes that are longer than the room that is left. Where it is told nothing is altered; else the
 -- bytes stand at their place, and before and behind them what was there.
 module _ (room : List ℕ) (at : ℕ) (bytes : List ℕ) where
-  pub write-tells : told_write (wrote_of room at bytes) ≡ if◌then◌else◌ (at + length bytes ≤? length room) (tells 0 (at + length bytes)) (tells 14 0)
+  pub write-tells : told_write (wrote_of room at bytes) ≡ when◌then◌else◌ (at + length bytes ≤? length room) (tells 0 (at + length bytes)) (tells 14 0)
   unfolding wrote_of
   write-tells = if-of told_write _ _ _
 
   pub no_room : at + length bytes ≤? length room ≡ false → (told_write (wrote_of room at bytes) ≡ tells 14 0) × (written_of room at bytes ≡ room)
-  unfolding wrote_of written_of if◌then◌else◌
+  unfolding wrote_of written_of when◌then◌else◌
   no_room h = (simp h, simp h)
 
   pub no-other-byte : at + length bytes ≤? length room ≡ true → written_of room at bytes ≡ take at room ++ bytes ++ drop (at + length bytes) room

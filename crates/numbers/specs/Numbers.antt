@@ -5,7 +5,7 @@
 -- the length".
 use Rattle.std.specs.Prelude.{ℕ, zero, suc, ◌+◌, ◌-◌, ◌*◌, ◌/◌, ◌%◌, min, Bool, List, [], ◌∷◌, ◌++◌, length, drop}
 use Rattle.panel.specs.Refusals.{Told, answered, refused}
-use Rattle.panel.specs.Tests.{if◌then◌else◌, ◌and◌, ◌<?◌, ◌=?◌}
+use Rattle.panel.specs.Tests.{when◌then◌else◌, ◌and◌, ◌<?◌, ◌=?◌}
 use Rattle.panel.specs.declared.refusals.Refusal.{Refusal}
 use Rattle.panel.specs.declared.refusals.Refusal.TheVariants.{Cut, Form, Big}
 use Rattle.numbers.specs.Sizes.{group, most_groups}
@@ -16,7 +16,7 @@ use Rattle.numbers.specs.declared.reading.Value.{Value}
 -- Writing: the groups of v, at most so many.
 unfoldable pub groups_by : ℕ → ℕ → List ℕ
 groups_by zero v = []
-groups_by (suc most) v = if v <? group then v ∷ [] else (group + v % group) ∷ groups_by most (v / group)
+groups_by (suc most) v = when v <? group then v ∷ [] else (group + v % group) ∷ groups_by most (v / group)
 
 unfoldable pub bytes_of : ℕ → List ℕ
 bytes_of v = groups_by most_groups v
@@ -40,7 +40,7 @@ after g early = early
 unfoldable pub groups_in : ℕ → List ℕ → Groups
 groups_in zero bytes = endless
 groups_in (suc most) [] = early
-groups_in (suc most) (b ∷ bytes) = if b <? group then whole (b ∷ []) else after (b - group) (groups_in most bytes)
+groups_in (suc most) (b ∷ bytes) = when b <? group then whole (b ∷ []) else after (b - group) (groups_in most bytes)
 
 -- low first
 unfoldable pub value_of : List ℕ → ℕ
@@ -67,8 +67,8 @@ abbrev pub judged : ℕ → ℕ → Groups → Value
 judged at most endless = stopped Big at
 judged at most early = stopped Cut at
 judged at most (whole gs) =
-    if needless gs then stopped Form at
-    else if most <? value_of gs then stopped Big at
+    when needless gs then stopped Form at
+    else when most <? value_of gs then stopped Big at
     else read (value_of gs) (at + length gs)
 
 -- the number at a place of the bytes, which its field holds to a maximum

@@ -1,5 +1,7 @@
 // A number as bytes: groups of seven bits, low first, in the shortest form and no other. The trace is made of such
 // numbers. Reading refuses with the place that it speaks of; writing leaves the room as it was where it refuses.
+#![tactic(auto)]
+
 mod reading;
 mod sizes;
 mod writing;

@@ -9,21 +9,21 @@ use panel::{Refusal, wide8};
 
 // Where reading stands, or why it stopped and the place that this speaks of. It is handed from read
 // to read, and once stopped it stays so: a record is then read straight through, and looked at once.
-#[derive(Drop)]
+#[derive(Clone, Copy)]
 pub enum Cursor {
     At(usize),
     Stop(Refusal, usize),
 }
 
 // A number that was read, 0 where reading has stopped.
-#[derive(Drop)]
+#[derive(Clone, Copy)]
 pub struct Value {
     pub v: u64,
     pub to: Cursor,
 }
 
 // The groups of a number: what they come to and where the next number begins, or why there is none.
-#[derive(Drop)]
+#[derive(Clone, Copy)]
 enum Grouped {
     Whole(u64, usize),
     Early,

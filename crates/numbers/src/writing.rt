@@ -9,7 +9,7 @@ use crate::sizes::{GROUP, MOST_GROUPS};
 use panel::Refusal;
 
 // Where the bytes end, or that the room was too small for them.
-#[derive(Drop)]
+#[derive(Clone, Copy)]
 pub enum WriteAnswer {
     Answered(usize),
     Refused(Refusal),
