@@ -2,7 +2,6 @@
 -- nothing.
 use Prim.Native.Nat.{ℕ, ◌+◌, ◌<◌}
 use mathlib.Core.Path.{◌≡◌, refl, ◌∙◌, ap}
-use mathlib.Core.Bool.{Bool, true, false}
 use mathlib.Core.List.{List, [], ◌∷◌, ◌++◌}
 use lib.Dec.{lit<}
 use lib.ListN.{get_or}
@@ -30,11 +29,11 @@ use Rattle.gesture.specs.declared.record.Tracker.{Tracker}
 use Rattle.image.specs.Image.{touch_number, start_of, since_of, multi_of, pairing_of, pair_number, pair_of, end_number, end_time, lock_number, zero_multi, zero_pair, point_rows, down_rows, multi_rows, pair_rows, pairing_rows, touch_rows, finger_rows, one_rows, taken_rows, end_rows, key_rows, setting_rows, table, image_of}
 use Rattle.image.specs.Rows.{row, total, Fits}
 use Rattle.image.specs.code.Numbers.{point_at, flag_from}
-use Rattle.image.specs.code.Touches.{at-touch, axis_from, pairing_from, touch_from, multi_at, pair_at, touch_at}
+use Rattle.image.specs.code.Touches.{at_touch, axis_from, pairing_from, touch_from, multi_at, pair_at, touch_at}
 use Rattle.image.specs.code.Finger.{at_last, lock_from, one_at, app_at}
 use Rattle.image.specs.code.Ended.{at_ended, end_from, end_at}
 use Rattle.image.specs.code.Keys.{at_told, keys_at}
-use Rattle.image.specs.code.Settings.{at-grab}
+use Rattle.image.specs.code.Settings.{at_grab}
 use Rattle.image.specs.code.Whole.{tracker_at}
 use Rattle.image.specs.Typed.{Byte, Time, Bytes, TypedPoint, TypedMulti, TypedPair, TypedPairing, TypedTouch, TypedOne, TypedEnd, Typed}
 use Rattle.image.proofs.Flags.{bit-fits, bit-back}
@@ -106,18 +105,18 @@ end_fits (At end) h = (lit< tt, (h, tt))
 -- Each part is what was written.
 
 axis-back : (a : Axis) → axis_from (axis_number a) ≡ a
-unfolding axis_from axes.axis_number tests.if◌then◌else◌
+unfolding axis_from axes.axis_number tests.when◌then◌else◌
 axis-back H = refl
 axis-back «V» = refl
 
 lock-back : (x : AxisLock) → lock_from (lock_number x) ≡ x
-unfolding lock_from lock_number axes.axis_number tests.if◌then◌else◌
+unfolding lock_from lock_number axes.axis_number tests.when◌then◌else◌
 lock-back Free = refl
 lock-back (On H) = refl
 lock-back (On «V») = refl
 
 touch-back : (x : Touch) → touch_from (touch_number x) (start_of x) (since_of x) (multi_of x) (pairing_from (pair_number (pairing_of x)) (pair_of (pairing_of x))) ≡ x
-unfolding touch_from touch_number start_of since_of multi_of pairing_of pairing_from pair_number pair_of tests.if◌then◌else◌
+unfolding touch_from touch_number start_of since_of multi_of pairing_of pairing_from pair_number pair_of tests.when◌then◌else◌
 touch-back touch.Idle = refl
 touch-back (touch.Down start since) = refl
 touch-back (touch.Multi m Unpaired) = refl
@@ -125,14 +124,14 @@ touch-back (touch.Multi m (Paired r)) = refl
 touch-back touch.Residual = refl
 
 end_back : (end : MultiEnd) → end_from (end_number end) (end_time end) ≡ end
-unfolding end_from end_number end_time tests.if◌then◌else◌
+unfolding end_from end_number end_time tests.when◌then◌else◌
 end_back Never = refl
 end_back (At end) = refl
 
 -- Reading a part of the image, by the places of its rows.
 
 module _ (t : Tracker) (typed : Typed t) where
-  touch-read : numbers_at (touch_rows t.touch) (image_of t) at-touch ≡ numbers_in (touch_rows t.touch)
+  touch-read : numbers_at (touch_rows t.touch) (image_of t) at_touch ≡ numbers_in (touch_rows t.touch)
   unfolding image_of table total touch_rows down_rows multi_rows pairing_rows pair_rows point_rows finger_rows one_rows taken_rows end_rows key_rows setting_rows
   touch-read = part-back [] (touch_rows t.touch) (finger_rows t.one t.app ++ end_rows t.multi_end ++ key_rows t.keys ++ setting_rows t.settings) (touch-fits t.touch typed.touching)
 
@@ -148,7 +147,7 @@ module _ (t : Tracker) (typed : Typed t) where
   unfolding image_of table total touch_rows down_rows multi_rows pairing_rows pair_rows point_rows finger_rows one_rows taken_rows end_rows key_rows setting_rows
   keys-read = part-back (touch_rows t.touch ++ finger_rows t.one t.app ++ end_rows t.multi_end) (key_rows t.keys) (setting_rows t.settings) (typed.keying.0, (typed.keying.1, tt))
 
-  settings-read : numbers_at (setting_rows t.settings) (image_of t) at-grab ≡ numbers_in (setting_rows t.settings)
+  settings-read : numbers_at (setting_rows t.settings) (image_of t) at_grab ≡ numbers_in (setting_rows t.settings)
   unfolding image_of table total touch_rows down_rows multi_rows pairing_rows pair_rows point_rows finger_rows one_rows taken_rows end_rows key_rows setting_rows
   settings-read = part-back (touch_rows t.touch ++ finger_rows t.one t.app ++ end_rows t.multi_end ++ key_rows t.keys) (setting_rows t.settings) [] (settings-fit t.settings typed.setting)
 

@@ -13,7 +13,7 @@ use mir.Syntax.{w8}
 use mir.Val.{Fits}
 use Rattle.image.specs.Rows.{bytes_of}
 use Rattle.image.specs.code.Numbers.{number_at}
-use Rattle.image.specs.code.Settings.{at-end}
+use Rattle.image.specs.code.Settings.{at_end}
 
 -- Places past one another.
 
@@ -37,7 +37,7 @@ seven at = omega arith
 
 -- The places of a number are within an area of the image's length.
 
-pub room : (area : List ℕ) (at k w : ℕ) → (length area ≡ at-end) × (at + w ≤ at-end) → k < w → at + k < length area
+pub room : (area : List ℕ) (at k w : ℕ) → (length area ≡ at_end) × (at + w ≤ at_end) → k < w → at + k < length area
 room area at k w h less =
     let long = h.0 in
     let fits = h.1 in

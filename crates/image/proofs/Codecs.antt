@@ -13,7 +13,7 @@ use Rattle.panel.proofs.Laws.{and_left, and_right}
 use Rattle.gesture.specs.States.{state_rule}
 use Rattle.gesture.specs.declared.record.Tracker.{Tracker}
 use Rattle.image.specs.Image.{image_of, image_bytes}
-use Rattle.image.specs.code.Settings.{at-end}
+use Rattle.image.specs.code.Settings.{at_end}
 use Rattle.image.specs.code.Whole.{tracker_at, image_checked}
 use Rattle.image.specs.code.Finding.{unruled_of}
 use Rattle.image.specs.Typed.{Bytes}
@@ -60,7 +60,7 @@ module _ (area : List ℕ) where
 
 -- The same, from what the code looked at.
 
-module _ (area : List ℕ) (long : length area ≡ at-end) (bytes : Bytes area) where
+module _ (area : List ℕ) (long : length area ≡ at_end) (bytes : Bytes area) where
   pub found-answers : (t : Tracker) → t ≡ tracker_at area → image_checked area ≡ true → Answered t ≡ unruled_of area
   unfolding unruled_of is_image
   found-answers t is passes = ap Answered is ∙ sym (if-true _ _ _ (ap (λ (l : List ℕ). same l area) (image-again area bytes long passes) ∙ same_self area))
@@ -69,7 +69,7 @@ module _ (area : List ℕ) (long : length area ≡ at-end) (bytes : Bytes area) 
   unfolding unruled_of is_image
   found-fails fails = sym (if-false _ _ _ (same-differ _ _ (λ e. true≢false (sym (image-passes (tracker_at area)) ∙ ap image_checked e ∙ fails))))
 
-pub found-length : (area : List ℕ) → (length area ≡ at-end → ⊥) → Refused State ≡ unruled_of area
+pub found-length : (area : List ℕ) → (length area ≡ at_end → ⊥) → Refused State ≡ unruled_of area
 unfolding unruled_of is_image
 found-length area differ = sym (if-false _ _ _ (same-differ _ _ (λ e. differ (sym (ap length e) ∙ length-image (tracker_at area)))))
 
@@ -92,7 +92,7 @@ module _ (area : List ℕ) (t : Tracker) where
   found-holds = if-know Holds _ (Answered (tracker_at area)) (Refused State) (λ yes e. (yes, ap (the-tracker t) e)) (λ other e. absurd (true≢false (ap is-answered e)))
 
   module _ (is : Answered t ≡ unruled_of area) where
-    pub found-long : length area ≡ at-end
+    pub found-long : length area ≡ at_end
     unfolding is_image
     found-long = sym (ap length (same-equal _ _ (found-holds is).0)) ∙ length-image (tracker_at area)
 
@@ -122,14 +122,14 @@ module _ (area : List ℕ) (why : Refusal) where
 -- Storing.
 
 module _ (t : Tracker) (area : List ℕ) where
-  pub encode-done : (after : List ℕ) → length area ≡ at-end → state_rule t ≡ true → after ≡ image_of t → stored 0 after ≡ encode_of t area
+  pub encode-done : (after : List ℕ) → length area ≡ at_end → state_rule t ≡ true → after ≡ image_of t → stored 0 after ≡ encode_of t area
   unfolding encode_of
   encode-done after long kept e = ap (stored 0) e ∙ sym (if-true _ _ _ (and-true _ _ (eq-eqb _ _ (long ∙ sym bytes-end)) ∙ kept))
 
-  pub encode-length : (n : ℕ) → n ≡ number_of State → (length area ≡ at-end → ⊥) → stored n area ≡ encode_of t area
+  pub encode-length : (n : ℕ) → n ≡ number_of State → (length area ≡ at_end → ⊥) → stored n area ≡ encode_of t area
   unfolding encode_of
   encode-length n e differ = ap (λ (k : ℕ). stored k area) e ∙ sym (if-false _ _ _ (and-false _ _ (ne_eqb _ _ (λ same_bytes. differ (same_bytes ∙ bytes-end)))))
 
-  pub encode-broken : (n : ℕ) → n ≡ number_of State → length area ≡ at-end → state_rule t ≡ false → stored n area ≡ encode_of t area
+  pub encode-broken : (n : ℕ) → n ≡ number_of State → length area ≡ at_end → state_rule t ≡ false → stored n area ≡ encode_of t area
   unfolding encode_of
   encode-broken n e long broken = ap (λ (k : ℕ). stored k area) e ∙ sym (if-false _ _ _ (and-true _ _ (eq-eqb _ _ (long ∙ sym bytes-end)) ∙ broken))

@@ -14,7 +14,7 @@ use Rattle.panel.specs.declared.axes.Axis.{Axis}
 use Rattle.panel.specs.declared.axes.Axis.TheVariants.{H, «V»}
 use Rattle.panel.specs.declared.axes.AxisLock.{AxisLock}
 use Rattle.panel.specs.declared.axes.AxisLock.TheVariants.{Free, On}
-use Rattle.panel.proofs.Follow.{if-true, if-false, and-true}
+use Rattle.panel.proofs.Follow.{if-true, if-false}
 use Rattle.panel.proofs.Laws.{and_left, and_right}
 use Rattle.fingers.specs.declared.one.One.{One}
 use Rattle.fingers.specs.declared.one.App.{App}
@@ -32,11 +32,11 @@ use Rattle.gesture.specs.declared.record.Tracker.{Tracker}
 use Rattle.image.specs.Rows.{Row, row, bytes_of, laid, total}
 use Rattle.image.specs.Image.{touch_number, start_of, since_of, multi_of, pairing_of, pair_number, pair_of, end_number, end_time, lock_number, zero_multi, point_rows, down_rows, multi_rows, pair_rows, pairing_rows, touch_rows, finger_rows, one_rows, taken_rows, end_rows, key_rows, setting_rows, table, image_of}
 use Rattle.image.specs.code.Numbers.{number_at, point_at, is_zero, is_flag}
-use Rattle.image.specs.code.Touches.{at-touch, at-start, at-since, at-multi-n, at-multi-t0, at-multi-c1, at-multi-t1, at-pairs, at-pair-a, at-pair-b, at-pair-axis, at-span0, at-pair-c0, at-pair-state, axis_from, pairing_from, touch_from, multi_at, pair_at, touch_at, no_down, no_multi, no_pair, pairing_checked, single_checked, touch_checked}
-use Rattle.image.specs.code.Finger.{at_last, at_moved, at-far, at-long-sent, at-axis, at-grabbed, at-direct, at-early, at-captured, at_raw, lock_from, one_at, app_at, one_checked, app_checked}
-use Rattle.image.specs.code.Ended.{at_ended, at-end-time, end_from, end_checked}
+use Rattle.image.specs.code.Touches.{at_touch, at_start, at_since, at_multi_n, at_multi_t0, at_multi_c1, at_multi_t1, at_pairs, at_pair_a, at_pair_b, at_pair_axis, at_span0, at_pair_c0, at_pair_state, axis_from, pairing_from, touch_from, multi_at, pair_at, touch_at, no_down, no_multi, no_pair, pairing_checked, single_checked, touch_checked}
+use Rattle.image.specs.code.Finger.{at_last, at_moved, at_far, at_long_sent, at_axis, at_grabbed, at_direct, at_early, at_captured, at_raw, lock_from, one_at, app_at, one_checked, app_checked}
+use Rattle.image.specs.code.Ended.{at_ended, at_end_time, end_from, end_checked}
 use Rattle.image.specs.code.Keys.{keys_at}
-use Rattle.image.specs.code.Settings.{at-end}
+use Rattle.image.specs.code.Settings.{at_end}
 use Rattle.image.specs.code.Whole.{tracker_at, rest_checked, image_checked}
 use Rattle.image.specs.Typed.{Bytes}
 use Rattle.image.proofs.Layouts.{read, read-laid, widths_of}
@@ -57,7 +57,7 @@ lock-passes (On H) = refl
 lock-passes (On «V») = refl
 
 touch-passes : (x : Touch) (rest : List Row) → touch_checked (laid (touch_rows x ++ rest)) ≡ true
-unfolding touch_checked single_checked pairing_checked no_down no_multi no_pair is_zero is_flag number_at laid bytes_of touch_rows touch_number start_of since_of multi_of pairing_of pair_number pair_of down_rows multi_rows pairing_rows pair_rows point_rows axes.axis_number tests.if◌then◌else◌ tests.◌and◌
+unfolding touch_checked single_checked pairing_checked no_down no_multi no_pair is_zero is_flag number_at laid bytes_of touch_rows touch_number start_of since_of multi_of pairing_of pair_number pair_of down_rows multi_rows pairing_rows pair_rows point_rows axes.axis_number tests.when◌then◌else◌ tests.◌and◌
 touch-passes touch.Idle rest = refl
 touch-passes (touch.Down start since) rest = refl
 touch-passes (touch.Multi m Unpaired) rest = refl
@@ -66,7 +66,7 @@ touch-passes touch.Residual rest = refl
 
 module _ (x : Touch) (one : One) (app : App) where
   end-passes : (end : MultiEnd) (rest : List Row) → end_checked (laid (touch_rows x ++ finger_rows one app ++ end_rows end ++ rest)) ≡ true
-  unfolding end_checked is_zero number_at laid bytes_of touch_rows down_rows multi_rows pairing_rows pair_rows point_rows finger_rows one_rows taken_rows end_rows end_number end_time tests.if◌then◌else◌
+  unfolding end_checked is_zero number_at laid bytes_of touch_rows down_rows multi_rows pairing_rows pair_rows point_rows finger_rows one_rows taken_rows end_rows end_number end_time tests.when◌then◌else◌
   end-passes Never rest = refl
   end-passes (At end) rest = refl
 
@@ -91,11 +91,11 @@ image-passes t =
 -- What passes is the image of its tracker. A number of few values stands for itself.
 
 axis-same : (n : ℕ) → n ≤ 1 → axis_number (axis_from n) ≡ n
-unfolding axis_from axes.axis_number tests.if◌then◌else◌
+unfolding axis_from axes.axis_number tests.when◌then◌else◌
 axis-same n h = of_two Axis axis_from axis_number refl refl n h
 
 lock-same : (n : ℕ) → n ≤ 2 → lock_number (lock_from n) ≡ n
-unfolding lock_from lock_number axes.axis_number tests.if◌then◌else◌
+unfolding lock_from lock_number axes.axis_number tests.when◌then◌else◌
 lock-same zero h = refl
 lock-same (suc zero) h = refl
 lock-same (suc (suc n)) h =
@@ -165,128 +165,128 @@ module _ (area : List ℕ) where
   -- No finger is down.
 
   module _ (absent : no_down area ≡ true) where
-    start-4 : number_at area at-start 4 ≡ 0
+    start-4 : number_at area at_start 4 ≡ 0
     unfolding no_down
-    start-4 = is-zero at-start 4 (and_left _ _ absent)
+    start-4 = is-zero at_start 4 (and_left _ _ absent)
 
-    no_start : point_at area at-start ≡ origin
-    no_start = λ i. record { x = start-of-word at-start 2 2 start-4 i; y = rest-of-word at-start 2 2 start-4 i }
+    no_start : point_at area at_start ≡ origin
+    no_start = λ i. record { x = start-of-word at_start 2 2 start-4 i; y = rest-of-word at_start 2 2 start-4 i }
 
-    no-since : number_at area at-since 8 ≡ 0
+    no-since : number_at area at_since 8 ≡ 0
     unfolding no_down
-    no-since = is-zero at-since 8 (and_right _ _ absent)
+    no-since = is-zero at_since 8 (and_right _ _ absent)
 
   -- No several fingers.
 
   module _ (absent : no_multi area ≡ true) where
-    word-0 : number_at area at-multi-n 8 ≡ 0
+    word-0 : number_at area at_multi_n 8 ≡ 0
     unfolding no_multi
     word-0 = is-zero _ 8 (and_left _ _ absent)
 
-    word-1 : number_at area (at-multi-n + 8) 8 ≡ 0
+    word-1 : number_at area (at_multi_n + 8) 8 ≡ 0
     unfolding no_multi
     word-1 = is-zero _ 8 (and_left _ _ (and_right _ _ absent))
 
-    word-2 : number_at area (at-multi-n + 16) 8 ≡ 0
+    word-2 : number_at area (at_multi_n + 16) 8 ≡ 0
     unfolding no_multi
     word-2 = is-zero _ 8 (and_left _ _ (and_right _ _ (and_right _ _ absent)))
 
-    word-3 : number_at area (at-multi-n + 24) 2 ≡ 0
+    word-3 : number_at area (at_multi_n + 24) 2 ≡ 0
     unfolding no_multi
     word-3 = is-zero _ 2 (and_right _ _ (and_right _ _ (and_right _ _ absent)))
 
     -- Numbers that two of the words share.
 
-    no-t0 : number_at area at-multi-t0 8 ≡ 0
-    no-t0 = joined at-multi-t0 3 5 (rest-of-word at-multi-n 5 3 word-0) (start-of-word (at-multi-n + 8) 5 3 word-1)
+    no-t0 : number_at area at_multi_t0 8 ≡ 0
+    no-t0 = joined at_multi_t0 3 5 (rest-of-word at_multi_n 5 3 word-0) (start-of-word (at_multi_n + 8) 5 3 word-1)
 
-    no-y1 : number_at area (at-multi-c1 + 2) 2 ≡ 0
-    no-y1 = joined (at-multi-c1 + 2) 1 1 (rest-of-word (at-multi-n + 8) 7 1 word-1) (start-of-word (at-multi-n + 16) 1 7 word-2)
+    no-y1 : number_at area (at_multi_c1 + 2) 2 ≡ 0
+    no-y1 = joined (at_multi_c1 + 2) 1 1 (rest-of-word (at_multi_n + 8) 7 1 word-1) (start-of-word (at_multi_n + 16) 1 7 word-2)
 
-    no-t1 : number_at area at-multi-t1 8 ≡ 0
-    no-t1 = joined at-multi-t1 7 1 (rest-of-word (at-multi-n + 16) 1 7 word-2) (start-of-word (at-multi-n + 24) 1 1 word-3)
+    no-t1 : number_at area at_multi_t1 8 ≡ 0
+    no-t1 = joined at_multi_t1 7 1 (rest-of-word (at_multi_n + 16) 1 7 word-2) (start-of-word (at_multi_n + 24) 1 1 word-3)
 
     no-several : multi_at area ≡ zero_multi
     unfolding multi_at
     no-several =
         λ i.
         record {
-          n = start-of-word at-multi-n 1 7 word-0 i;
-          c0 = record { x = part-of-word at-multi-n 1 2 5 word-0 i; y = part-of-word at-multi-n 3 2 3 word-0 i };
+          n = start-of-word at_multi_n 1 7 word-0 i;
+          c0 = record { x = part-of-word at_multi_n 1 2 5 word-0 i; y = part-of-word at_multi_n 3 2 3 word-0 i };
           t0 = no-t0 i;
-          c1 = record { x = part-of-word (at-multi-n + 8) 5 2 1 word-1 i; y = no-y1 i };
+          c1 = record { x = part-of-word (at_multi_n + 8) 5 2 1 word-1 i; y = no-y1 i };
           t1 = no-t1 i;
         }
 
-    no-mark : number_at area at-pairs 1 ≡ 0
-    no-mark = rest-of-word (at-multi-n + 24) 1 1 word-3
+    no-mark : number_at area at_pairs 1 ≡ 0
+    no-mark = rest-of-word (at_multi_n + 24) 1 1 word-3
 
   -- No pair: the rows of the touch are then those of a touch without one.
 
   module _ (absent : no_pair area ≡ true) where
-    word-4 : number_at area at-pair-a 8 ≡ 0
+    word-4 : number_at area at_pair_a 8 ≡ 0
     unfolding no_pair
     word-4 = is-zero _ 8 (and_left _ _ absent)
 
-    word-5 : number_at area at-pair-axis 8 ≡ 0
+    word-5 : number_at area at_pair_axis 8 ≡ 0
     unfolding no_pair
     word-5 = is-zero _ 8 (and_right _ _ absent)
 
     no-pair-rows : (n : ℕ) (start : Point) (since : ℕ) (m : Multi) (k : ℕ)
         → shape n start since m k origin origin 0 0 origin 0
-        ≡ shape n start since m k (point_at area at-pair-a) (point_at area at-pair-b) (number_at area at-pair-axis 1) (number_at area at-span0 2) (point_at area at-pair-c0) (number_at area at-pair-state 1)
+        ≡ shape n start since m k (point_at area at_pair_a) (point_at area at_pair_b) (number_at area at_pair_axis 1) (number_at area at_span0 2) (point_at area at_pair_c0) (number_at area at_pair_state 1)
     no-pair-rows n start since m k =
         sym (λ i.
-        shape n start since m k (record { x = start-of-word at-pair-a 2 6 word-4 i; y = part-of-word at-pair-a 2 2 4 word-4 i }) (record { x = part-of-word at-pair-a 4 2 2 word-4 i; y = rest-of-word at-pair-a 6 2 word-4 i })
-        (start-of-word at-pair-axis 1 7 word-5 i)
-        (part-of-word at-pair-axis 1 2 5 word-5 i)
-        (record { x = part-of-word at-pair-axis 3 2 3 word-5 i; y = part-of-word at-pair-axis 5 2 1 word-5 i })
-        (rest-of-word at-pair-axis 7 1 word-5 i))
+        shape n start since m k (record { x = start-of-word at_pair_a 2 6 word-4 i; y = part-of-word at_pair_a 2 2 4 word-4 i }) (record { x = part-of-word at_pair_a 4 2 2 word-4 i; y = rest-of-word at_pair_a 6 2 word-4 i })
+        (start-of-word at_pair_axis 1 7 word-5 i)
+        (part-of-word at_pair_axis 1 2 5 word-5 i)
+        (record { x = part-of-word at_pair_axis 3 2 3 word-5 i; y = part-of-word at_pair_axis 5 2 1 word-5 i })
+        (rest-of-word at_pair_axis 7 1 word-5 i))
 
   -- The rows of the touch.
 
   abbrev at_n : ℕ
-  at_n = number_at area at-touch 1
+  at_n = number_at area at_touch 1
 
-  abbrev at-k : ℕ
-  at-k = number_at area at-pairs 1
+  abbrev at_k : ℕ
+  at_k = number_at area at_pairs 1
 
-  abbrev pairs-from : ℕ → Pairing
-  pairs-from k = pairing_from k (pair_at area)
+  abbrev pairs_from : ℕ → Pairing
+  pairs_from k = pairing_from k (pair_at area)
 
   -- what stands in the area
   abbrev stands : List Row
   stands =
-      shape at_n (point_at area at-start) (number_at area at-since 8) (multi_at area) at-k (point_at area at-pair-a) (point_at area at-pair-b) (number_at area at-pair-axis 1) (number_at area at-span0 2) (point_at area at-pair-c0)
-      (number_at area at-pair-state 1)
+      shape at_n (point_at area at_start) (number_at area at_since 8) (multi_at area) at_k (point_at area at_pair_a) (point_at area at_pair_b) (number_at area at_pair_axis 1) (number_at area at_span0 2) (point_at area at_pair_c0)
+      (number_at area at_pair_state 1)
 
   abbrev reads : ℕ → ℕ → List Row
-  reads n k = touch_rows (touch_from n (point_at area at-start) (number_at area at-since 8) (multi_at area) (pairs-from k))
+  reads n k = touch_rows (touch_from n (point_at area at_start) (number_at area at_since 8) (multi_at area) (pairs_from k))
 
-  touch_reads : touch_rows (touch_at area) ≡ reads at_n at-k
+  touch_reads : touch_rows (touch_at area) ≡ reads at_n at_k
   unfolding touch_at
   touch_reads = refl
 
   module _ (none : no_multi area ≡ true) (no-pair : no_pair area ≡ true) where
-    alone-rows : (n : ℕ) → at_n ≡ n → (start : Point) → (since : ℕ) → point_at area at-start ≡ start → number_at area at-since 8 ≡ since → shape n start since zero_multi 0 origin origin 0 0 origin 0 ≡ stands
+    alone-rows : (n : ℕ) → at_n ≡ n → (start : Point) → (since : ℕ) → point_at area at_start ≡ start → number_at area at_since 8 ≡ since → shape n start since zero_multi 0 origin origin 0 0 origin 0 ≡ stands
     alone-rows n e start since p s =
         (λ i. shape (sym e i) (sym p i) (sym s i) (sym (no-several none) i) (sym (no-mark none) i) origin origin 0 0 origin 0)
-        ∙ no-pair-rows no-pair at_n (point_at area at-start) (number_at area at-since 8) (multi_at area) at-k
+        ∙ no-pair-rows no-pair at_n (point_at area at_start) (number_at area at_since 8) (multi_at area) at_k
 
-    down-rows : at_n ≡ 1 → reads at_n at-k ≡ stands
-    unfolding touch_from touch_rows touch_number start_of since_of multi_of pairing_of pair_number pair_of pairing_rows pair_rows down_rows multi_rows point_rows axes.axis_number tests.if◌then◌else◌
-    down-rows e = ap (λ (n : ℕ). reads n at-k) e ∙ alone-rows 1 e (point_at area at-start) (number_at area at-since 8) refl refl
+    down-rows : at_n ≡ 1 → reads at_n at_k ≡ stands
+    unfolding touch_from touch_rows touch_number start_of since_of multi_of pairing_of pair_number pair_of pairing_rows pair_rows down_rows multi_rows point_rows axes.axis_number tests.when◌then◌else◌
+    down-rows e = ap (λ (n : ℕ). reads n at_k) e ∙ alone-rows 1 e (point_at area at_start) (number_at area at_since 8) refl refl
 
     module _ (none-down : no_down area ≡ true) where
-      idle-rows : at_n ≡ 0 → reads at_n at-k ≡ stands
-      unfolding touch_from touch_rows touch_number start_of since_of multi_of pairing_of pair_number pair_of pairing_rows pair_rows down_rows multi_rows point_rows axes.axis_number tests.if◌then◌else◌
-      idle-rows e = ap (λ (n : ℕ). reads n at-k) e ∙ alone-rows 0 e origin 0 (no_start none-down) (no-since none-down)
+      idle-rows : at_n ≡ 0 → reads at_n at_k ≡ stands
+      unfolding touch_from touch_rows touch_number start_of since_of multi_of pairing_of pair_number pair_of pairing_rows pair_rows down_rows multi_rows point_rows axes.axis_number tests.when◌then◌else◌
+      idle-rows e = ap (λ (n : ℕ). reads n at_k) e ∙ alone-rows 0 e origin 0 (no_start none-down) (no-since none-down)
 
-      residual-rows : at_n ≡ 3 → reads at_n at-k ≡ stands
-      unfolding touch_from touch_rows touch_number start_of since_of multi_of pairing_of pair_number pair_of pairing_rows pair_rows down_rows multi_rows point_rows axes.axis_number tests.if◌then◌else◌
-      residual-rows e = ap (λ (n : ℕ). reads n at-k) e ∙ alone-rows 3 e origin 0 (no_start none-down) (no-since none-down)
+      residual-rows : at_n ≡ 3 → reads at_n at_k ≡ stands
+      unfolding touch_from touch_rows touch_number start_of since_of multi_of pairing_of pair_number pair_of pairing_rows pair_rows down_rows multi_rows point_rows axes.axis_number tests.when◌then◌else◌
+      residual-rows e = ap (λ (n : ℕ). reads n at_k) e ∙ alone-rows 3 e origin 0 (no_start none-down) (no-since none-down)
 
-      other-rows : (b : Bool) → eqb at_n 0 ≡ b → at_n ≤ 3 → eqb at_n 1 ≡ false → eqb at_n 2 ≡ false → reads at_n at-k ≡ stands
+      other-rows : (b : Bool) → eqb at_n 0 ≡ b → at_n ≤ 3 → eqb at_n 1 ≡ false → eqb at_n 2 ≡ false → reads at_n at_k ≡ stands
       other-rows true e h n1 n2 = idle-rows (eqb-true _ _ e)
       other-rows false e h n1 n2 =
           let a = eqb-false at_n 0 e in
@@ -294,7 +294,7 @@ module _ (area : List ℕ) where
           let c = eqb-false at_n 2 n2 in
           residual-rows (omega (arith, h, a, b, c))
 
-  single-rows : (b : Bool) → eqb at_n 1 ≡ b → at_n ≤ 3 → eqb at_n 2 ≡ false → single_checked area at_n ≡ true → reads at_n at-k ≡ stands
+  single-rows : (b : Bool) → eqb at_n 1 ≡ b → at_n ≤ 3 → eqb at_n 2 ≡ false → single_checked area at_n ≡ true → reads at_n at_k ≡ stands
   unfolding single_checked
   single-rows true e h n2 passes = down-rows (and_left _ _ passes) (and_left _ _ (and_right _ _ passes)) (eqb-true _ _ e)
   single-rows false e h n2 passes =
@@ -302,33 +302,33 @@ module _ (area : List ℕ) where
       other-rows (and_left _ _ passes) (and_left _ _ (and_right _ _ passes)) none-down (eqb at_n 0) refl h e n2
 
   module _ (e : at_n ≡ 2) (none-down : no_down area ≡ true) where
-    several-rows : (k : ℕ) (a b : Point) (axis span0 : ℕ) (c0 : Point) (state : ℕ) → shape 2 origin 0 (multi_at area) k a b axis span0 c0 state ≡ shape at_n (point_at area at-start) (number_at area at-since 8) (multi_at area) k a b axis span0 c0 state
+    several-rows : (k : ℕ) (a b : Point) (axis span0 : ℕ) (c0 : Point) (state : ℕ) → shape 2 origin 0 (multi_at area) k a b axis span0 c0 state ≡ shape at_n (point_at area at_start) (number_at area at_since 8) (multi_at area) k a b axis span0 c0 state
     several-rows k a b axis span0 c0 state = λ i. shape (sym e i) (sym (no_start none-down) i) (sym (no-since none-down) i) (multi_at area) k a b axis span0 c0 state
 
-    unpaired-rows : at-k ≡ 0 → no_pair area ≡ true → reads at_n at-k ≡ stands
-    unfolding touch_from pairing_from touch_rows touch_number start_of since_of multi_of pairing_of pair_number pair_of pairing_rows pair_rows down_rows multi_rows point_rows axes.axis_number tests.if◌then◌else◌
+    unpaired-rows : at_k ≡ 0 → no_pair area ≡ true → reads at_n at_k ≡ stands
+    unfolding touch_from pairing_from touch_rows touch_number start_of since_of multi_of pairing_of pair_number pair_of pairing_rows pair_rows down_rows multi_rows point_rows axes.axis_number tests.when◌then◌else◌
     unpaired-rows f no-pair =
         (λ i. reads (e i) (f i)) ∙ several-rows 0 origin origin 0 0 origin 0
-        ∙ no-pair-rows no-pair at_n (point_at area at-start) (number_at area at-since 8) (multi_at area) 0
-        ∙ ap (λ (k : ℕ). shape at_n (point_at area at-start) (number_at area at-since 8) (multi_at area) k (point_at area at-pair-a) (point_at area at-pair-b) (number_at area at-pair-axis 1) (number_at area at-span0 2) (point_at area at-pair-c0) (number_at area at-pair-state 1)) (sym f)
+        ∙ no-pair-rows no-pair at_n (point_at area at_start) (number_at area at_since 8) (multi_at area) 0
+        ∙ ap (λ (k : ℕ). shape at_n (point_at area at_start) (number_at area at_since 8) (multi_at area) k (point_at area at_pair_a) (point_at area at_pair_b) (number_at area at_pair_axis 1) (number_at area at_span0 2) (point_at area at_pair_c0) (number_at area at_pair_state 1)) (sym f)
 
-    paired-rows : at-k ≡ 1 → is_flag area at-pair-axis ≡ true → reads at_n at-k ≡ stands
-    unfolding touch_from pairing_from pair_at touch_rows touch_number start_of since_of multi_of pairing_of pair_number pair_of pairing_rows pair_rows down_rows multi_rows point_rows tests.if◌then◌else◌
+    paired-rows : at_k ≡ 1 → is_flag area at_pair_axis ≡ true → reads at_n at_k ≡ stands
+    unfolding touch_from pairing_from pair_at touch_rows touch_number start_of since_of multi_of pairing_of pair_number pair_of pairing_rows pair_rows down_rows multi_rows point_rows tests.when◌then◌else◌
     paired-rows f flag =
-        (λ i. reads (e i) (f i)) ∙ several-rows 1 (point_at area at-pair-a) (point_at area at-pair-b) (axis_number (axis_from (number_at area at-pair-axis 1))) (number_at area at-span0 2) (point_at area at-pair-c0) (number_at area at-pair-state 1)
-        ∙ (λ i. shape at_n (point_at area at-start) (number_at area at-since 8) (multi_at area) (sym f i) (point_at area at-pair-a) (point_at area at-pair-b) (axis-same _ (is-flag area at-pair-axis flag) i) (number_at area at-span0 2) (point_at area at-pair-c0) (number_at area at-pair-state 1))
+        (λ i. reads (e i) (f i)) ∙ several-rows 1 (point_at area at_pair_a) (point_at area at_pair_b) (axis_number (axis_from (number_at area at_pair_axis 1))) (number_at area at_span0 2) (point_at area at_pair_c0) (number_at area at_pair_state 1)
+        ∙ (λ i. shape at_n (point_at area at_start) (number_at area at_since 8) (multi_at area) (sym f i) (point_at area at_pair_a) (point_at area at_pair_b) (axis-same _ (is-flag area at_pair_axis flag) i) (number_at area at_span0 2) (point_at area at_pair_c0) (number_at area at_pair_state 1))
 
-    pairing-rows : (a b : Bool) → eqb at-k 0 ≡ a → eqb at-k 1 ≡ b → pairing_checked area ≡ true → reads at_n at-k ≡ stands
+    pairing-rows : (a b : Bool) → eqb at_k 0 ≡ a → eqb at_k 1 ≡ b → pairing_checked area ≡ true → reads at_n at_k ≡ stands
     unfolding pairing_checked
     pairing-rows true b k0 k1 passes = unpaired-rows (eqb-true _ _ k0) (sym (if-true _ _ _ k0) ∙ passes)
     pairing-rows false true k0 k1 passes = paired-rows (eqb-true _ _ k1) (sym (if-true _ _ _ k1) ∙ sym (if-false _ _ _ k0) ∙ passes)
     pairing-rows false false k0 k1 passes = absurd (true≢false (sym passes ∙ if-false _ _ _ k0 ∙ if-false _ _ _ k1))
 
-  by_number : (a b : Bool) → eqb at_n 2 ≡ a → leb at_n 3 ≡ b → touch_checked area ≡ true → reads at_n at-k ≡ stands
+  by_number : (a b : Bool) → eqb at_n 2 ≡ a → leb at_n 3 ≡ b → touch_checked area ≡ true → reads at_n at_k ≡ stands
   unfolding touch_checked
   by_number true b n2 n3 passes =
       let both-pass = sym (if-true _ _ _ n2) ∙ passes in
-      pairing-rows (eqb-true _ _ n2) (and_left _ _ both-pass) (eqb at-k 0) (eqb at-k 1) refl refl (and_right _ _ both-pass)
+      pairing-rows (eqb-true _ _ n2) (and_left _ _ both-pass) (eqb at_k 0) (eqb at_k 1) refl refl (and_right _ _ both-pass)
   by_number false true n2 n3 passes = single-rows (eqb at_n 1) refl (leb-true _ _ n3) n2 (sym (if-true _ _ _ n3) ∙ sym (if-false _ _ _ n2) ∙ passes)
   by_number false false n2 n3 passes = absurd (true≢false (sym passes ∙ if-false _ _ _ n2 ∙ if-false _ _ _ n3))
 
@@ -338,7 +338,7 @@ module _ (area : List ℕ) where
   -- The other rows.
 
   module _ (one : one_checked area ≡ true) (app : app_checked area ≡ true) where
-    lock-stands : lock_number (lock_from (number_at area at-axis 1)) ≡ number_at area at-axis 1
+    lock-stands : lock_number (lock_from (number_at area at_axis 1)) ≡ number_at area at_axis 1
     unfolding one_checked
     lock-stands = lock-same _ (leb-true _ _ (and_left _ _ (and_right _ _ (and_right _ _ one))))
 
@@ -350,28 +350,28 @@ module _ (area : List ℕ) where
         let app2 = and_right _ _ app in
         λ i.
         point_rows (point_at area at_last) ++ (row 1 (flag-stands area at_moved (and_left _ _ one) i)
-        ∷ row 2 (number_at area at-far 2)
-        ∷ row 1 (flag-stands area at-long-sent (and_left _ _ one2) i)
+        ∷ row 2 (number_at area at_far 2)
+        ∷ row 1 (flag-stands area at_long_sent (and_left _ _ one2) i)
         ∷ row 1 (lock-stands i)
-        ∷ row 1 (flag-stands area at-grabbed (and_left _ _ one4) i)
-        ∷ row 1 (flag-stands area at-direct (and_left _ _ app) i)
-        ∷ row 1 (flag-stands area at-early (and_right _ _ one4) i)
-        ∷ row 1 (flag-stands area at-captured (and_left _ _ app2) i)
+        ∷ row 1 (flag-stands area at_grabbed (and_left _ _ one4) i)
+        ∷ row 1 (flag-stands area at_direct (and_left _ _ app) i)
+        ∷ row 1 (flag-stands area at_early (and_right _ _ one4) i)
+        ∷ row 1 (flag-stands area at_captured (and_left _ _ app2) i)
         ∷ row 1 (flag-stands area at_raw (and_right _ _ app2) i)
         ∷ [])
 
-  abbrev at-e : ℕ
-  at-e = number_at area at_ended 1
+  abbrev at_e : ℕ
+  at_e = number_at area at_ended 1
 
-  end-rows : (b : Bool) → eqb at-e 0 ≡ b → end_checked area ≡ true → end_rows (end_from at-e (number_at area at-end-time 8)) ≡ row 1 at-e ∷ row 8 (number_at area at-end-time 8) ∷ []
-  unfolding end_checked end_rows end_from end_number end_time tests.if◌then◌else◌
+  end-rows : (b : Bool) → eqb at_e 0 ≡ b → end_checked area ≡ true → end_rows (end_from at_e (number_at area at_end_time 8)) ≡ row 1 at_e ∷ row 8 (number_at area at_end_time 8) ∷ []
+  unfolding end_checked end_rows end_from end_number end_time tests.when◌then◌else◌
   end-rows true e passes =
-      let f : at-e ≡ 0 = eqb-true _ _ e in
-      let zero-time = is-zero at-end-time 8 (sym (if-true _ _ _ e) ∙ passes) in
-      (λ i. end_rows (end_from (f i) (number_at area at-end-time 8))) ∙ (λ i. row 1 (sym f i) ∷ row 8 (sym zero-time i) ∷ [])
+      let f : at_e ≡ 0 = eqb-true _ _ e in
+      let zero-time = is-zero at_end_time 8 (sym (if-true _ _ _ e) ∙ passes) in
+      (λ i. end_rows (end_from (f i) (number_at area at_end_time 8))) ∙ (λ i. row 1 (sym f i) ∷ row 8 (sym zero-time i) ∷ [])
   end-rows false e passes =
-      let f : at-e ≡ 1 = eqb-true _ _ (sym (if-false _ _ _ e) ∙ passes) in
-      (λ i. end_rows (end_from (f i) (number_at area at-end-time 8))) ∙ (λ i. row 1 (sym f i) ∷ row 8 (number_at area at-end-time 8) ∷ [])
+      let f : at_e ≡ 1 = eqb-true _ _ (sym (if-false _ _ _ e) ∙ passes) in
+      (λ i. end_rows (end_from (f i) (number_at area at_end_time 8))) ∙ (λ i. row 1 (sym f i) ∷ row 8 (number_at area at_end_time 8) ∷ [])
 
   -- the widths of the table
   abbrev widths : List ℕ
@@ -384,9 +384,9 @@ module _ (area : List ℕ) where
       let app = and_left _ _ (and_right _ _ rest) in
       let end = and_left _ _ (and_right _ _ (and_right _ _ rest)) in
       let set = and_right _ _ (and_right _ _ (and_right _ _ rest)) in
-      λ i. touch-rows (and_left _ _ passes) i ++ finger-rows (and_left _ _ rest) app i ++ end-rows (eqb at-e 0) refl end i ++ key_rows (keys_at area) ++ setting-rows area set i
+      λ i. touch-rows (and_left _ _ passes) i ++ finger-rows (and_left _ _ rest) app i ++ end-rows (eqb at_e 0) refl end i ++ key_rows (keys_at area) ++ setting-rows area set i
 
-  module _ (bytes : Bytes area) (long : length area ≡ at-end) where
+  module _ (bytes : Bytes area) (long : length area ≡ at_end) where
     as_read : laid (read area widths 0) ≡ area
     unfolding total table widths_of touch_rows pairing_rows pair_rows point_rows down_rows multi_rows finger_rows one_rows taken_rows end_rows key_rows setting_rows
     as_read = read-laid area bytes widths 0 (sym long)

@@ -21,7 +21,7 @@ bit-fits true = lit< tt
 bit-fits false = lit< tt
 
 pub bit-back : (b : Bool) → flag_from (bit b) ≡ b
-unfolding flag_from tests.bit tests.if◌then◌else◌
+unfolding flag_from tests.bit tests.when◌then◌else◌
 bit-back true = refl
 bit-back false = refl
 
@@ -39,7 +39,7 @@ module _ (A : Type 0) (f : ℕ → A) (back : A → ℕ) (at-0 : back (f 0) ≡ 
       ap (λ (k : ℕ). back (f (suc k))) e ∙ at_1 ∙ sym (ap suc e)
 
 flag_same : (n : ℕ) → n ≤ 1 → bit (flag_from n) ≡ n
-unfolding flag_from tests.bit tests.if◌then◌else◌
+unfolding flag_from tests.bit tests.when◌then◌else◌
 flag_same n h = of_two Bool flag_from bit refl refl n h
 
 module _ (area : List ℕ) where

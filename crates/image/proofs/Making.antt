@@ -27,7 +27,7 @@ use Rattle.image.specs.Image.{image_of}
 use Rattle.image.specs.Codec.{decode_of}
 use Rattle.image.specs.Numbers.{numbers_of, zeros}
 use Rattle.image.specs.Calls.{Left, left, finished, on_decoded, made_on, plain_call, grab, grab_decoded, grab_on}
-use Rattle.image.specs.code.Settings.{at-end, settings_at}
+use Rattle.image.specs.code.Settings.{at_end, settings_at}
 use Rattle.image.specs.code.Whole.{tracker_at}
 use Rattle.image.specs.code.Finding.{unruled_of}
 use Rattle.image.specs.declared.codec.DecodeAnswer.{DecodeAnswer}
@@ -58,13 +58,13 @@ broken-refused (raw_next on) t broken = if-false _ _ _ broken
 broken-refused (set_grab_ms ms) t broken = if-false _ _ _ broken
 
 state-finished : (area : List ℕ) (t : Tracker) → finished area (refused State t) ≡ left (number_of State) area zeros
-unfolding finished answers.refused tests.if◌then◌else◌
+unfolding finished answers.refused tests.when◌then◌else◌
 state-finished area t = refl
 
 -- A call on what was found.
 
 module _ (area : List ℕ) (d : DecodeAnswer) (found : d ≡ unruled_of area) where
-  pub held-length : (t : Tracker) → d ≡ Answered t → length area ≡ at-end
+  pub held-length : (t : Tracker) → d ≡ Answered t → length area ≡ at_end
   held-length t e = found-long area t (sym e ∙ found)
 
   module _ (c : Call) where
@@ -108,7 +108,7 @@ module _ (area : List ℕ) where
   unfolding decode_of
   alike = if-know Alike _ (Answered (tracker_at area)) (Refused State) (λ yes. answered-alike (and_right _ _ yes)) (λ other. refused-alike)
 
-  pub grab-length : (n : ℕ) → n ≡ number_of State → (length area ≡ at-end → ⊥) → grab n 0 ≡ grab_on area
+  pub grab-length : (n : ℕ) → n ≡ number_of State → (length area ≡ at_end → ⊥) → grab n 0 ≡ grab_on area
   unfolding grab_on grab_decoded
   grab-length n e differ = ap (λ (k : ℕ). grab k 0) e ∙ ap grab_decoded (sym (decode-length area (λ same_bytes. differ (same_bytes ∙ bytes-end))))
 

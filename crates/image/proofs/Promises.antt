@@ -7,7 +7,7 @@ use mathlib.Core.List.{List, [], ◌∷◌, ◌++◌}
 use lib.ListN.{length, replicate}
 use borrow.Author.Tests.{eq-eqb}
 use Rattle.panel.specs.Tests as tests
-use Rattle.panel.specs.Tests.{if◌then◌else◌, ◌and◌}
+use Rattle.panel.specs.Tests.{when◌then◌else◌, ◌and◌}
 use Rattle.panel.specs.Refusals.{number_of}
 use Rattle.panel.specs.declared.refusals.Refusal.TheVariants.{State}
 use Rattle.panel.proofs.Follow.{if-true, if-false, if-of, if-know, if-all, and-true}
@@ -27,7 +27,7 @@ use Rattle.gesture.specs.declared.making.CallKind.{CallKind}
 use Rattle.gesture.specs.declared.record.Tracker.{Tracker}
 use Rattle.image.specs.Rows.{bytes_of, laid}
 use Rattle.image.specs.Image.{image_bytes, touch_number, start_of, since_of, multi_of, pairing_of, pair_number, pair_of, end_number, end_time, lock_number, point_rows, down_rows, multi_rows, pair_rows, pairing_rows, touch_rows, finger_rows, one_rows, taken_rows, end_rows, key_rows, setting_rows, table, image_of}
-use Rattle.image.specs.code.Settings.{at-end}
+use Rattle.image.specs.code.Settings.{at_end}
 use Rattle.image.specs.code.Whole.{tracker_at}
 use Rattle.image.specs.Typed.{Bytes, Typed}
 use Rattle.image.specs.Codec.{NoImage, Decodes, is_image, decode_of, told_decode, Stored, stored, encode_of}
@@ -122,7 +122,7 @@ one-decoding area (Refused why) (Refused other) none typed p q = ap Refused (p.0
 
 -- In document 01's numbers: 0 and the tracker, or STATE, number 1.
 
-pub decode-tells : (area : List ℕ) → told_decode (decode_of area) ≡ if◌then◌else◌ (◌and◌ (is_image area) (state_rule (tracker_at area))) (record { number = 0; value = tracker_at area }) (record { number = 1; value = fresh_tracker })
+pub decode-tells : (area : List ℕ) → told_decode (decode_of area) ≡ when◌then◌else◌ (◌and◌ (is_image area) (state_rule (tracker_at area))) (record { number = 0; value = tracker_at area }) (record { number = 1; value = fresh_tracker })
 unfolding decode_of told_decode
 decode-tells area = if-of told_decode _ _ _
 
@@ -159,10 +159,10 @@ encode-unique t area r s a b p q =
 -- Worked examples: the fresh tracker's image is all zero; a finger that went down at (300, 50) at time 1000 is there in
 -- its own bytes.
 
-pub fresh-image : image_of fresh_tracker ≡ replicate at-end 0
+pub fresh-image : image_of fresh_tracker ≡ replicate at_end 0
 unfolding bytes_of laid touch_number start_of since_of multi_of pairing_of pair_number pair_of end_number end_time lock_number point_rows down_rows multi_rows pair_rows pairing_rows touch_rows finger_rows one_rows taken_rows end_rows key_rows setting_rows table image_of trackers.fresh_tracker trackers.whole fields.reset fields.untaken settings.unset tests.bit axes.axis_number
 fresh-image = refl
 
-pub down-image : image_of (touched fresh_tracker (Down (record { x = 300; y = 50 }) 1000) fresh_tracker.one fresh_tracker.app Never) ≡ (1 ∷ 44 ∷ 1 ∷ 50 ∷ 0 ∷ 232 ∷ 3 ∷ []) ++ replicate (at-end - 7) 0
+pub down-image : image_of (touched fresh_tracker (Down (record { x = 300; y = 50 }) 1000) fresh_tracker.one fresh_tracker.app Never) ≡ (1 ∷ 44 ∷ 1 ∷ 50 ∷ 0 ∷ 232 ∷ 3 ∷ []) ++ replicate (at_end - 7) 0
 unfolding bytes_of laid touch_number start_of since_of multi_of pairing_of pair_number pair_of end_number end_time lock_number point_rows down_rows multi_rows pair_rows pairing_rows touch_rows finger_rows one_rows taken_rows end_rows key_rows setting_rows table image_of trackers.touched trackers.fresh_tracker trackers.whole fields.reset fields.untaken settings.unset tests.bit axes.axis_number
 down-image = refl

@@ -6,7 +6,7 @@
 --
 -- What comes back is a refusal number, or 0, the area, which holds the tracker, and the numbers of the answer.
 use Rattle.std.specs.Prelude.{ℕ, List, replicate}
-use Rattle.panel.specs.Tests.{if◌then◌else◌, ◌=?◌}
+use Rattle.panel.specs.Tests.{when◌then◌else◌, ◌=?◌}
 use Rattle.panel.specs.Refusals.{number_of}
 use Rattle.gesture.specs.Answers.{grab_of}
 use Rattle.gesture.specs.Calls.{Call, answer_of}
@@ -31,7 +31,7 @@ left number area out = record { number = number; area = area; out = out }
 
 -- the area becomes the image of the tracker that the call leaves; a refused call leaves it
 unfoldable pub finished : List ℕ → Answer → Left
-finished area a = if a.refusal =? 0 then left 0 (image_of a.tracker) (numbers_of a) else left a.refusal area zeros
+finished area a = when a.refusal =? 0 then left 0 (image_of a.tracker) (numbers_of a) else left a.refusal area zeros
 
 unfoldable pub on_decoded : List ℕ → DecodeAnswer → Call → Left
 on_decoded area (Answered t) c = finished area (answer_of t c)

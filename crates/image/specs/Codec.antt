@@ -7,7 +7,7 @@
 -- believes. `decode_of` goes through the tracker that the code reads; that it answers what `Decodes` asks for, and that there is
 -- one such answer, is proved (`decodes`, `one-decoding` of proofs/Promises.antt).
 use Rattle.std.specs.Prelude.{ℕ, ◌≡◌, Bool, true, false, List, [], ◌∷◌, length}
-use Rattle.panel.specs.Tests.{if◌then◌else◌, ◌and◌, ◌=?◌}
+use Rattle.panel.specs.Tests.{when◌then◌else◌, ◌and◌, ◌=?◌}
 use Rattle.panel.specs.Refusals.{Told, answered, refused, number_of}
 use Rattle.panel.specs.declared.refusals.Refusal.TheVariants.{State}
 use Rattle.gesture.specs.States.{state_rule}
@@ -40,7 +40,7 @@ unfoldable pub is_image : List ℕ → Bool
 is_image area = same (image_of (tracker_at area)) area
 
 unfoldable pub decode_of : List ℕ → DecodeAnswer
-decode_of area = if is_image area and state_rule (tracker_at area) then Answered (tracker_at area) else Refused State
+decode_of area = when is_image area and state_rule (tracker_at area) then Answered (tracker_at area) else Refused State
 
 -- in document 01's numbers: a refusal tells of no tracker, and the fresh one stands for it
 unfoldable pub told_decode : DecodeAnswer → Told Tracker
@@ -59,5 +59,5 @@ stored number area = record { number = number; area = area }
 -- the image of a tracker that keeps the state rule, into an area of the image's length
 unfoldable pub encode_of : Tracker → List ℕ → Stored
 encode_of t area =
-    if (length area =? image_bytes) and state_rule t then stored 0 (image_of t)
+    when (length area =? image_bytes) and state_rule t then stored 0 (image_of t)
     else stored (number_of State) area

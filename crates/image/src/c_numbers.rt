@@ -8,7 +8,7 @@ use panel::{Point, wide8, wide16};
 pub const ANSWER_NUMBERS: usize = 11;
 
 // A gesture's code number, 0 for none, and its numbers in the order of its fields.
-#[derive(Drop)]
+#[derive(Clone, Copy)]
 struct GestureNumbers {
     code: u64,
     a: u64,
@@ -18,7 +18,7 @@ struct GestureNumbers {
     e: u64,
 }
 
-#[derive(Drop)]
+#[derive(Clone, Copy)]
 struct LogNumbers {
     letter: u64,
     argument: u64,

@@ -7,7 +7,7 @@
 ghost use Rattle.std.specs.Prelude.{◌≡◌, length};
 ghost use Rattle.gesture.specs.Calls.{call_of};
 ghost use Rattle.image.specs.Calls.{left, finished, made_on, plain_call, grab_on};
-ghost use Rattle.image.specs.code.Settings.{at-end};
+ghost use Rattle.image.specs.code.Settings.{at_end};
 
 use crate::c_numbers::ANSWER_NUMBERS;
 use crate::codec::DecodeAnswer;
@@ -16,7 +16,7 @@ use crate::{c_numbers, codec, settings, whole};
 use gesture::{Answer, Call, CallKind};
 use panel::{Event, Point, Refusal};
 
-#[derive(Drop)]
+#[derive(Clone, Copy)]
 pub struct AreaGrab {
     pub refusal: u8,
     pub ms: u16,
@@ -24,7 +24,7 @@ pub struct AreaGrab {
 
 // What the tracker's call answered, into the area and the numbers.
 fn finish(area: &mut [u8], a: Answer, out: &mut [u64; ANSWER_NUMBERS]) -> u8
-    requires { length area.old ≡ at-end }
+    requires { length area.old ≡ at_end }
     ensures { left result area.new out.new ≡ finished area.old a }
 {
     if a.refusal == 0 {
@@ -80,7 +80,7 @@ pub fn grab_ms(area: &[u8]) -> AreaGrab
         };
     }
     let mut held = [0u8; IMAGE_BYTES];
-    bytes::copy(area, &mut held);
+    held.copy_from_slice(area);
     let mut told = [0u64; ANSWER_NUMBERS];
     let r = make(&mut held, plain(CallKind::Capture), &mut told);
     if r == 0 {

@@ -10,7 +10,7 @@ use crate::whole;
 use gesture::Tracker;
 use panel::Refusal;
 
-#[derive(Drop)]
+#[derive(Clone, Copy)]
 pub enum DecodeAnswer {
     Answered(Tracker),
     Refused(Refusal),

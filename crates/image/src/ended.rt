@@ -2,7 +2,7 @@
 ghost use Rattle.std.specs.Prelude.{◌≡◌, length};
 ghost use Rattle.image.specs.Image.{end_number, end_time, end_rows};
 ghost use Rattle.image.specs.code.Puts.{puts};
-ghost use Rattle.image.specs.code.Settings.{at-end};
+ghost use Rattle.image.specs.code.Settings.{at_end};
 ghost use Rattle.image.specs.code.Ended.{at_ended, end_at, end_checked};
 
 use crate::fields;
@@ -35,7 +35,7 @@ fn end_time(end: MultiEnd) -> u64
 }
 
 pub(crate) fn put_end(image: &mut [u8], end: MultiEnd)
-    requires { length image.old ≡ at-end }
+    requires { length image.old ≡ at_end }
     ensures { image.new ≡ puts image.old at_ended (end_rows end) }
 {
     fields::put1(image, ENDED, end_number(end));
@@ -43,7 +43,7 @@ pub(crate) fn put_end(image: &mut [u8], end: MultiEnd)
 }
 
 pub(crate) fn end_at(image: &[u8]) -> MultiEnd
-    requires { length image.now ≡ at-end }
+    requires { length image.now ≡ at_end }
     ensures { result ≡ end_at image.now }
 {
     let n = fields::get1(image, ENDED);
@@ -55,7 +55,7 @@ pub(crate) fn end_at(image: &[u8]) -> MultiEnd
 }
 
 pub(crate) fn end_checked(image: &[u8]) -> bool
-    requires { length image.now ≡ at-end }
+    requires { length image.now ≡ at_end }
     ensures { result ≡ end_checked image.now }
 {
     let n = fields::get1(image, ENDED);

@@ -8,7 +8,7 @@ ghost use Rattle.image.specs.Rows.{bytes_of};
 ghost use Rattle.image.specs.Image.{point_rows};
 ghost use Rattle.image.specs.code.Numbers.{number_at, point_at, flag_from, flag_at, is_zero, is_flag};
 ghost use Rattle.image.specs.code.Puts.{puts};
-ghost use Rattle.image.specs.code.Settings.{at-end};
+ghost use Rattle.image.specs.code.Settings.{at_end};
 
 use panel::Point;
 
@@ -27,14 +27,14 @@ fn half(x: u8) -> u16
 }
 
 pub(crate) fn put1(image: &mut [u8], at: usize, v: u8)
-    requires { (length image.old ≡ at-end) × (at + 1 ≤ at-end) }
+    requires { (length image.old ≡ at_end) × (at + 1 ≤ at_end) }
     ensures { image.new ≡ sets image.old at (bytes_of 1 v) }
 {
     image[at] = v;
 }
 
 pub(crate) fn put2(image: &mut [u8], at: usize, v: u16)
-    requires { (length image.old ≡ at-end) × (at + 2 ≤ at-end) }
+    requires { (length image.old ≡ at_end) × (at + 2 ≤ at_end) }
     ensures { image.new ≡ sets image.old at (bytes_of 2 v) }
 {
     image[at] = (v % 256) as u8;
@@ -43,7 +43,7 @@ pub(crate) fn put2(image: &mut [u8], at: usize, v: u16)
 
 // By shifts and masks: no number of 64 bits is divided in the firmware.
 pub(crate) fn put8(image: &mut [u8], at: usize, v: u64)
-    requires { (length image.old ≡ at-end) × (at + 8 ≤ at-end) }
+    requires { (length image.old ≡ at_end) × (at + 8 ≤ at_end) }
     ensures { image.new ≡ sets image.old at (bytes_of 8 v) }
 {
     let v1 = v >> 8;
@@ -64,7 +64,7 @@ pub(crate) fn put8(image: &mut [u8], at: usize, v: u64)
 }
 
 pub(crate) fn put_point(image: &mut [u8], at: usize, p: Point)
-    requires { (length image.old ≡ at-end) × (at + 4 ≤ at-end) }
+    requires { (length image.old ≡ at_end) × (at + 4 ≤ at_end) }
     ensures { image.new ≡ puts image.old at (point_rows p) }
 {
     put2(image, at, p.x);
@@ -72,21 +72,21 @@ pub(crate) fn put_point(image: &mut [u8], at: usize, p: Point)
 }
 
 pub(crate) fn put_flag(image: &mut [u8], at: usize, b: bool)
-    requires { (length image.old ≡ at-end) × (at + 1 ≤ at-end) }
+    requires { (length image.old ≡ at_end) × (at + 1 ≤ at_end) }
     ensures { image.new ≡ sets image.old at (bytes_of 1 (bit b)) }
 {
     put1(image, at, panel::bit(b));
 }
 
 pub(crate) fn get1(image: &[u8], at: usize) -> u8
-    requires { (length image.now ≡ at-end) × (at + 1 ≤ at-end) }
+    requires { (length image.now ≡ at_end) × (at + 1 ≤ at_end) }
     ensures { result ≡ number_at image.now at 1 }
 {
     image[at]
 }
 
 pub(crate) fn get2(image: &[u8], at: usize) -> u16
-    requires { (length image.now ≡ at-end) × (at + 2 ≤ at-end) }
+    requires { (length image.now ≡ at_end) × (at + 2 ≤ at_end) }
     ensures { result ≡ number_at image.now at 2 }
 {
     let low = half(image[at]);
@@ -95,7 +95,7 @@ pub(crate) fn get2(image: &[u8], at: usize) -> u16
 }
 
 pub(crate) fn get4(image: &[u8], at: usize) -> u64
-    requires { (length image.now ≡ at-end) × (at + 4 ≤ at-end) }
+    requires { (length image.now ≡ at_end) × (at + 4 ≤ at_end) }
     ensures { (result ≡ number_at image.now at 4) × (result < 4294967296) }
 {
     let b0 = wide8(image[at]);
@@ -106,7 +106,7 @@ pub(crate) fn get4(image: &[u8], at: usize) -> u64
 }
 
 pub(crate) fn get8(image: &[u8], at: usize) -> u64
-    requires { (length image.now ≡ at-end) × (at + 8 ≤ at-end) }
+    requires { (length image.now ≡ at_end) × (at + 8 ≤ at_end) }
     ensures { result ≡ number_at image.now at 8 }
 {
     let low = get4(image, at);
@@ -115,7 +115,7 @@ pub(crate) fn get8(image: &[u8], at: usize) -> u64
 }
 
 pub(crate) fn get_point(image: &[u8], at: usize) -> Point
-    requires { (length image.now ≡ at-end) × (at + 4 ≤ at-end) }
+    requires { (length image.now ≡ at_end) × (at + 4 ≤ at_end) }
     ensures { result ≡ point_at image.now at }
 {
     Point {
@@ -131,21 +131,21 @@ fn flag(n: u8) -> bool
 }
 
 pub(crate) fn get_flag(image: &[u8], at: usize) -> bool
-    requires { (length image.now ≡ at-end) × (at + 1 ≤ at-end) }
+    requires { (length image.now ≡ at_end) × (at + 1 ≤ at_end) }
     ensures { result ≡ flag_at image.now at }
 {
     flag(get1(image, at))
 }
 
 pub(crate) fn is_flag(image: &[u8], at: usize) -> bool
-    requires { (length image.now ≡ at-end) × (at + 1 ≤ at-end) }
+    requires { (length image.now ≡ at_end) × (at + 1 ≤ at_end) }
     ensures { result ≡ is_flag image.now at }
 {
     get1(image, at) <= 1
 }
 
 pub(crate) fn is_zero8(image: &[u8], at: usize) -> bool
-    requires { (length image.now ≡ at-end) × (at + 8 ≤ at-end) }
+    requires { (length image.now ≡ at_end) × (at + 8 ≤ at_end) }
     ensures { result ≡ is_zero image.now at 8 }
 {
     get8(image, at) == 0

@@ -3,8 +3,8 @@
 ghost use Rattle.std.specs.Prelude.{◌≡◌, length};
 ghost use Rattle.image.specs.Image.{lock_number, one_rows, taken_rows, finger_rows};
 ghost use Rattle.image.specs.code.Puts.{puts};
-ghost use Rattle.image.specs.code.Settings.{at-end};
-ghost use Rattle.image.specs.code.Finger.{at_last, at-direct, lock_from, one_at, app_at, one_checked, app_checked};
+ghost use Rattle.image.specs.code.Settings.{at_end};
+ghost use Rattle.image.specs.code.Finger.{at_last, at_direct, lock_from, one_at, app_at, one_checked, app_checked};
 
 use crate::fields;
 use crate::touches::TOUCH_END;
@@ -46,7 +46,7 @@ fn lock_number(axis: AxisLock) -> u8
 }
 
 fn put_one(image: &mut [u8], one: One)
-    requires { length image.old ≡ at-end }
+    requires { length image.old ≡ at_end }
     ensures { image.new ≡ puts image.old at_last (one_rows one) }
 {
     let last = one.last;
@@ -60,8 +60,8 @@ fn put_one(image: &mut [u8], one: One)
 }
 
 fn put_taken(image: &mut [u8], early: bool, app: App)
-    requires { length image.old ≡ at-end }
-    ensures { image.new ≡ puts image.old at-direct (taken_rows early app) }
+    requires { length image.old ≡ at_end }
+    ensures { image.new ≡ puts image.old at_direct (taken_rows early app) }
 {
     fields::put_flag(image, DIRECT, app.direct);
     fields::put_flag(image, EARLY, early);
@@ -70,7 +70,7 @@ fn put_taken(image: &mut [u8], early: bool, app: App)
 }
 
 pub(crate) fn put_finger(image: &mut [u8], one: One, app: App)
-    requires { length image.old ≡ at-end }
+    requires { length image.old ≡ at_end }
     ensures { image.new ≡ puts image.old at_last (finger_rows one app) }
 {
     put_one(image, one);
@@ -90,7 +90,7 @@ fn lock_from(n: u8) -> AxisLock
 }
 
 pub(crate) fn one_at(image: &[u8]) -> One
-    requires { length image.now ≡ at-end }
+    requires { length image.now ≡ at_end }
     ensures { result ≡ one_at image.now }
 {
     One {
@@ -105,7 +105,7 @@ pub(crate) fn one_at(image: &[u8]) -> One
 }
 
 pub(crate) fn app_at(image: &[u8]) -> App
-    requires { length image.now ≡ at-end }
+    requires { length image.now ≡ at_end }
     ensures { result ≡ app_at image.now }
 {
     App {
@@ -116,7 +116,7 @@ pub(crate) fn app_at(image: &[u8]) -> App
 }
 
 pub(crate) fn one_checked(image: &[u8]) -> bool
-    requires { length image.now ≡ at-end }
+    requires { length image.now ≡ at_end }
     ensures { result ≡ one_checked image.now }
 {
     if fields::is_flag(image, MOVED) {
@@ -135,7 +135,7 @@ pub(crate) fn one_checked(image: &[u8]) -> bool
 }
 
 pub(crate) fn app_checked(image: &[u8]) -> bool
-    requires { length image.now ≡ at-end }
+    requires { length image.now ≡ at_end }
     ensures { result ≡ app_checked image.now }
 {
     if fields::is_flag(image, DIRECT) {

@@ -2,7 +2,7 @@
 ghost use Rattle.std.specs.Prelude.{◌≡◌, length};
 ghost use Rattle.image.specs.Image.{key_rows};
 ghost use Rattle.image.specs.code.Puts.{puts};
-ghost use Rattle.image.specs.code.Settings.{at-end};
+ghost use Rattle.image.specs.code.Settings.{at_end};
 ghost use Rattle.image.specs.code.Keys.{at_told, keys_at};
 
 use crate::ended::ENDED_END;
@@ -16,7 +16,7 @@ const WANTED: usize = TOLD + 1;
 pub(crate) const KEYS_END: usize = WANTED + 1;
 
 pub(crate) fn put_keys(image: &mut [u8], k: Keys)
-    requires { length image.old ≡ at-end }
+    requires { length image.old ≡ at_end }
     ensures { image.new ≡ puts image.old at_told (key_rows k) }
 {
     fields::put1(image, TOLD, k.told);
@@ -24,7 +24,7 @@ pub(crate) fn put_keys(image: &mut [u8], k: Keys)
 }
 
 pub(crate) fn keys_at(image: &[u8]) -> Keys
-    requires { length image.now ≡ at-end }
+    requires { length image.now ≡ at_end }
     ensures { result ≡ keys_at image.now }
 {
     Keys {

@@ -1,5 +1,7 @@
 // The byte image of a tracker, for a host that keeps it in an area of its own: one tracker has one image, and an
 // area that is no tracker's image is refused. docs/IMAGE.md has the layout.
+#![tactic(auto)]
+
 mod c_numbers;
 mod calls;
 mod codec;

@@ -2,7 +2,7 @@
 ghost use Rattle.std.specs.Prelude.{◌≡◌, length};
 ghost use Rattle.image.specs.Image.{setting_rows};
 ghost use Rattle.image.specs.code.Puts.{puts};
-ghost use Rattle.image.specs.code.Settings.{at-grab, at-end, SettingsRead, settings_checked};
+ghost use Rattle.image.specs.code.Settings.{at_grab, at_end, SettingsRead, settings_checked};
 
 use crate::fields;
 use crate::keys::KEYS_END;
@@ -15,15 +15,15 @@ const RAW_NEXT: usize = GRAB + 2;
 pub const IMAGE_BYTES: usize = RAW_NEXT + 1;
 
 pub(crate) fn put_settings(image: &mut [u8], s: Settings)
-    requires { length image.old ≡ at-end }
-    ensures { image.new ≡ puts image.old at-grab (setting_rows s) }
+    requires { length image.old ≡ at_end }
+    ensures { image.new ≡ puts image.old at_grab (setting_rows s) }
 {
     fields::put2(image, GRAB, s.grab_ms);
     fields::put_flag(image, RAW_NEXT, s.raw_next);
 }
 
 pub(crate) fn settings_at(image: &[u8]) -> Settings
-    requires { length image.now ≡ at-end }
+    requires { length image.now ≡ at_end }
     ensures { SettingsRead image.now result }
 {
     Settings {
@@ -33,7 +33,7 @@ pub(crate) fn settings_at(image: &[u8]) -> Settings
 }
 
 pub(crate) fn settings_checked(image: &[u8]) -> bool
-    requires { length image.now ≡ at-end }
+    requires { length image.now ≡ at_end }
     ensures { result ≡ settings_checked image.now }
 {
     fields::is_flag(image, RAW_NEXT)

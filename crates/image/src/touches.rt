@@ -6,8 +6,8 @@ ghost use Rattle.fingers.specs.declared.pair.Pairing.TheVariants.{Unpaired};
 ghost use Rattle.image.specs.Image.{down_rows, multi_rows, pair_rows, pairing_rows, touch_rows};
 ghost use Rattle.image.specs.code.Numbers.{number_at};
 ghost use Rattle.image.specs.code.Puts.{puts};
-ghost use Rattle.image.specs.code.Settings.{at-end};
-ghost use Rattle.image.specs.code.Touches.{at-touch, at-start, at-multi-n, at-pairs, at-pair-a, axis_from, pairing_from, multi_at, pair_at, touch_at, no_down, no_multi, no_pair, pairing_checked, single_checked, touch_checked};
+ghost use Rattle.image.specs.code.Settings.{at_end};
+ghost use Rattle.image.specs.code.Touches.{at_touch, at_start, at_multi_n, at_pairs, at_pair_a, axis_from, pairing_from, multi_at, pair_at, touch_at, no_down, no_multi, no_pair, pairing_checked, single_checked, touch_checked};
 
 use crate::fields;
 use fingers::{Multi, Pair, Pairing};
@@ -58,16 +58,16 @@ const PAIR_STATE: usize = PAIR_C0 + 4;
 pub(crate) const TOUCH_END: usize = PAIR_STATE + 1;
 
 fn put_down(image: &mut [u8], start: Point, since: u64)
-    requires { length image.old ≡ at-end }
-    ensures { image.new ≡ puts image.old at-start (down_rows start since) }
+    requires { length image.old ≡ at_end }
+    ensures { image.new ≡ puts image.old at_start (down_rows start since) }
 {
     fields::put_point(image, START, start);
     fields::put8(image, SINCE, since);
 }
 
 fn put_multi(image: &mut [u8], m: Multi)
-    requires { length image.old ≡ at-end }
-    ensures { image.new ≡ puts image.old at-multi-n (multi_rows m) }
+    requires { length image.old ≡ at_end }
+    ensures { image.new ≡ puts image.old at_multi_n (multi_rows m) }
 {
     let c0 = m.c0;
     let c1 = m.c1;
@@ -79,8 +79,8 @@ fn put_multi(image: &mut [u8], m: Multi)
 }
 
 fn put_pair(image: &mut [u8], r: Pair)
-    requires { length image.old ≡ at-end }
-    ensures { image.new ≡ puts image.old at-pair-a (pair_rows r) }
+    requires { length image.old ≡ at_end }
+    ensures { image.new ≡ puts image.old at_pair_a (pair_rows r) }
 {
     let a = r.a;
     let b = r.b;
@@ -96,8 +96,8 @@ fn put_pair(image: &mut [u8], r: Pair)
 }
 
 fn put_pairing(image: &mut [u8], pair: Pairing)
-    requires { (length image.old ≡ at-end) × (puts image.old at-pairs (pairing_rows Unpaired) ≡ image.old) }
-    ensures { image.new ≡ puts image.old at-pairs (pairing_rows pair) }
+    requires { (length image.old ≡ at_end) × (puts image.old at_pairs (pairing_rows Unpaired) ≡ image.old) }
+    ensures { image.new ≡ puts image.old at_pairs (pairing_rows pair) }
 {
     match pair {
         Pairing::Unpaired => {}
@@ -109,8 +109,8 @@ fn put_pairing(image: &mut [u8], pair: Pairing)
 }
 
 pub(crate) fn put_touch(image: &mut [u8], touch: Touch)
-    requires { (length image.old ≡ at-end) × (image.old ≡ replicate at-end 0) }
-    ensures { image.new ≡ puts image.old at-touch (touch_rows touch) }
+    requires { (length image.old ≡ at_end) × (image.old ≡ replicate at_end 0) }
+    ensures { image.new ≡ puts image.old at_touch (touch_rows touch) }
 {
     match touch {
         Touch::Idle => {}
@@ -136,7 +136,7 @@ fn axis_from(n: u8) -> Axis
 }
 
 fn multi_at(image: &[u8]) -> Multi
-    requires { length image.now ≡ at-end }
+    requires { length image.now ≡ at_end }
     ensures { result ≡ multi_at image.now }
 {
     Multi {
@@ -149,7 +149,7 @@ fn multi_at(image: &[u8]) -> Multi
 }
 
 fn pair_at(image: &[u8]) -> Pair
-    requires { length image.now ≡ at-end }
+    requires { length image.now ≡ at_end }
     ensures { result ≡ pair_at image.now }
 {
     Pair {
@@ -163,8 +163,8 @@ fn pair_at(image: &[u8]) -> Pair
 }
 
 fn pairing_at(image: &[u8]) -> Pairing
-    requires { length image.now ≡ at-end }
-    ensures { result ≡ pairing_from (number_at image.now at-pairs 1) (pair_at image.now) }
+    requires { length image.now ≡ at_end }
+    ensures { result ≡ pairing_from (number_at image.now at_pairs 1) (pair_at image.now) }
 {
     let n = fields::get1(image, PAIRS);
     if n == 0 {
@@ -175,7 +175,7 @@ fn pairing_at(image: &[u8]) -> Pairing
 }
 
 pub(crate) fn touch_at(image: &[u8]) -> Touch
-    requires { length image.now ≡ at-end }
+    requires { length image.now ≡ at_end }
     ensures { result ≡ touch_at image.now }
 {
     let n = fields::get1(image, TOUCH);
@@ -196,7 +196,7 @@ pub(crate) fn touch_at(image: &[u8]) -> Touch
 }
 
 fn no_down(image: &[u8]) -> bool
-    requires { length image.now ≡ at-end }
+    requires { length image.now ≡ at_end }
     ensures { result ≡ no_down image.now }
 {
     if fields::get4(image, START) == 0 {
@@ -207,7 +207,7 @@ fn no_down(image: &[u8]) -> bool
 
 // Not even the mark that there is a pair.
 fn no_multi(image: &[u8]) -> bool
-    requires { length image.now ≡ at-end }
+    requires { length image.now ≡ at_end }
     ensures { result ≡ no_multi image.now }
 {
     if fields::is_zero8(image, MULTI_N) {
@@ -223,7 +223,7 @@ fn no_multi(image: &[u8]) -> bool
 }
 
 fn no_pair(image: &[u8]) -> bool
-    requires { length image.now ≡ at-end }
+    requires { length image.now ≡ at_end }
     ensures { result ≡ no_pair image.now }
 {
     if fields::is_zero8(image, PAIR_A) {
@@ -233,7 +233,7 @@ fn no_pair(image: &[u8]) -> bool
 }
 
 fn pairing_checked(image: &[u8]) -> bool
-    requires { length image.now ≡ at-end }
+    requires { length image.now ≡ at_end }
     ensures { result ≡ pairing_checked image.now }
 {
     let n = fields::get1(image, PAIRS);
@@ -248,7 +248,7 @@ fn pairing_checked(image: &[u8]) -> bool
 
 // No touch of several fingers.
 fn single_checked(image: &[u8], n: u8) -> bool
-    requires { length image.now ≡ at-end }
+    requires { length image.now ≡ at_end }
     ensures { result ≡ single_checked image.now n }
 {
     if no_multi(image) {
@@ -264,7 +264,7 @@ fn single_checked(image: &[u8], n: u8) -> bool
 }
 
 pub(crate) fn touch_checked(image: &[u8]) -> bool
-    requires { length image.now ≡ at-end }
+    requires { length image.now ≡ at_end }
     ensures { result ≡ touch_checked image.now }
 {
     let n = fields::get1(image, TOUCH);

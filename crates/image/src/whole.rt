@@ -1,7 +1,7 @@
 // The parts of an image together.
 ghost use Rattle.std.specs.Prelude.{◌≡◌, length, replicate};
 ghost use Rattle.image.specs.Image.{image_of};
-ghost use Rattle.image.specs.code.Settings.{at-end};
+ghost use Rattle.image.specs.code.Settings.{at_end};
 ghost use Rattle.image.specs.code.Whole.{tracker_at, rest_checked, image_checked};
 
 use crate::settings::IMAGE_BYTES;
@@ -10,16 +10,16 @@ use gesture::Tracker;
 
 // All zero, as a fresh tracker's image is.
 pub(crate) fn blank(image: &mut [u8])
-    requires { length image.old ≡ at-end }
-    ensures { image.new ≡ replicate at-end 0 }
+    requires { length image.old ≡ at_end }
+    ensures { image.new ≡ replicate at_end 0 }
 {
     let zeros = [0u8; IMAGE_BYTES];
-    bytes::copy(&zeros, image);
+    image.copy_from_slice(&zeros);
 }
 
 // Straight into the area: an image on the way would be kept in registers, which it is too large for.
 pub(crate) fn put_tracker(image: &mut [u8], t: Tracker)
-    requires { length image.old ≡ at-end }
+    requires { length image.old ≡ at_end }
     ensures { image.new ≡ image_of t }
 {
     let touch = t.touch;
@@ -38,7 +38,7 @@ pub(crate) fn put_tracker(image: &mut [u8], t: Tracker)
 
 // The tracker of any image-sized area. Of an area that is no image it makes some tracker, whose own image differs.
 pub(crate) fn tracker_at(image: &[u8]) -> Tracker
-    requires { length image.now ≡ at-end }
+    requires { length image.now ≡ at_end }
     ensures { result ≡ tracker_at image.now }
 {
     Tracker {
@@ -52,7 +52,7 @@ pub(crate) fn tracker_at(image: &[u8]) -> Tracker
 }
 
 fn rest_checked(image: &[u8]) -> bool
-    requires { length image.now ≡ at-end }
+    requires { length image.now ≡ at_end }
     ensures { result ≡ rest_checked image.now }
 {
     if finger::one_checked(image) {
@@ -71,7 +71,7 @@ fn rest_checked(image: &[u8]) -> bool
 // absent is zero. Every other number stands for itself. Here and in the parts tests are joined by ifs inside one another:
 // of these the compiler makes flags, of `&` jumps.
 pub(crate) fn is_image(image: &[u8]) -> bool
-    requires { length image.now ≡ at-end }
+    requires { length image.now ≡ at_end }
     ensures { result ≡ image_checked image.now }
 {
     if touches::touch_checked(image) {

@@ -1,25 +1,25 @@
 -- The stored end of several fingers: its places, what is read there, and what is looked at.
 use Rattle.std.specs.Prelude.{ℕ, ◌+◌, Bool, List}
-use Rattle.panel.specs.Tests.{if◌then◌else◌, ◌=?◌}
+use Rattle.panel.specs.Tests.{when◌then◌else◌, ◌=?◌}
 use Rattle.gesture.specs.declared.record.MultiEnd.{MultiEnd}
 use Rattle.gesture.specs.declared.record.MultiEnd.TheVariants.{Never, At}
 use Rattle.image.specs.code.Numbers.{number_at, is_zero}
-use Rattle.image.specs.code.Finger.{finger-end}
+use Rattle.image.specs.code.Finger.{finger_end}
 
 abbrev pub at_ended : ℕ
-at_ended = finger-end
+at_ended = finger_end
 
-abbrev pub at-end-time : ℕ
-at-end-time = at_ended + 1
+abbrev pub at_end_time : ℕ
+at_end_time = at_ended + 1
 
-abbrev pub ended-end : ℕ
-ended-end = at-end-time + 8
+abbrev pub ended_end : ℕ
+ended_end = at_end_time + 8
 
 unfoldable pub end_from : ℕ → ℕ → MultiEnd
-end_from n time = if n =? 0 then Never else At time
+end_from n time = when n =? 0 then Never else At time
 
 abbrev pub end_at : List ℕ → MultiEnd
-end_at area = end_from (number_at area at_ended 1) (number_at area at-end-time 8)
+end_at area = end_from (number_at area at_ended 1) (number_at area at_end_time 8)
 
 unfoldable pub end_checked : List ℕ → Bool
-end_checked area = if number_at area at_ended 1 =? 0 then is_zero area at-end-time 8 else number_at area at_ended 1 =? 1
+end_checked area = when number_at area at_ended 1 =? 0 then is_zero area at_end_time 8 else number_at area at_ended 1 =? 1

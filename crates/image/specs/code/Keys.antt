@@ -2,16 +2,16 @@
 use Rattle.std.specs.Prelude.{ℕ, ◌+◌, List}
 use Rattle.fingers.specs.declared.keys.Keys.{Keys}
 use Rattle.image.specs.code.Numbers.{number_at}
-use Rattle.image.specs.code.Ended.{ended-end}
+use Rattle.image.specs.code.Ended.{ended_end}
 
 abbrev pub at_told : ℕ
-at_told = ended-end
+at_told = ended_end
 
-abbrev pub at-wanted : ℕ
-at-wanted = at_told + 1
+abbrev pub at_wanted : ℕ
+at_wanted = at_told + 1
 
-abbrev pub keys-end : ℕ
-keys-end = at-wanted + 1
+abbrev pub keys_end : ℕ
+keys_end = at_wanted + 1
 
 abbrev pub keys_at : List ℕ → Keys
-keys_at area = record { told = number_at area at_told 1; wanted = number_at area at-wanted 1 }
+keys_at area = record { told = number_at area at_told 1; wanted = number_at area at_wanted 1 }

@@ -1,7 +1,7 @@
 -- Numbers, points and flags as they are read from an area, and what is looked at to tell an image: a number of few values has
 -- one of them, and a part that is absent is zero, eight bytes at a time.
 use Rattle.std.specs.Prelude.{ℕ, zero, suc, ◌+◌, ◌*◌, Bool, true, false, List, get_or}
-use Rattle.panel.specs.Tests.{if◌then◌else◌, ◌=?◌, ◌≤?◌}
+use Rattle.panel.specs.Tests.{when◌then◌else◌, ◌=?◌, ◌≤?◌}
 use Rattle.panel.specs.declared.points.Point.{Point}
 
 -- the number in so many bytes from a place on, low byte first
@@ -13,7 +13,7 @@ abbrev pub point_at : List ℕ → ℕ → Point
 point_at area at = record { x = number_at area at 2; y = number_at area (at + 2) 2 }
 
 unfoldable pub flag_from : ℕ → Bool
-flag_from n = if n =? 0 then false else true
+flag_from n = when n =? 0 then false else true
 
 abbrev pub flag_at : List ℕ → ℕ → Bool
 flag_at area at = flag_from (number_at area at 1)
