@@ -11,7 +11,7 @@ use borrow.Author.Tests.{eqb-true, eq-eqb, ne_eqb, le-leb, lt-leb}
 use Rattle.panel.proofs.Follow.{if-true, if-false}
 use Rattle.panel.specs.Points.{fingers}
 use Rattle.panel.specs.Sizes.{max_points}
-use Rattle.panel.specs.Tests.{if◌then◌else◌}
+use Rattle.panel.specs.Tests.{when◌then◌else◌}
 use Rattle.panel.specs.declared.points.Event.{Event}
 use Rattle.panel.specs.declared.points.Point.{Point}
 use Rattle.panel.specs.declared.refusals.Refusal.{Refusal}
@@ -31,7 +31,6 @@ use Rattle.gesture.specs.declared.making.CallKind.{CallKind}
 use Rattle.gesture.specs.declared.making.CallKind.TheVariants as Call'
 use Rattle.trace.specs.declared.records.ReadAnswer.{ReadAnswer}
 use Rattle.trace.specs.declared.records.Taken.{Taken}
-use Rattle.trace.specs.declared.records.Taken.TheVariants as Taken
 use Rattle.numbers.proofs.Bytes.{by-lt}
 use Rattle.numbers.proofs.Grouping.{number-most}
 use Rattle.trace.proofs.Unknown.{by-eq}
@@ -183,7 +182,7 @@ module _ (s : List ℕ) (oc : Octets s) where
       let w = whole-took _ _ k _ e next q in
       let v = (number_from s c most1).v in
       let small = number-most s c most1 in
-      let flag : if◌then◌else◌ (eqb v 1) 1 0 ≡ v = by-eq v 1 (λ one. if-true _ _ _ (eq-eqb v 1 one) ∙ sym one) (λ other. if-false _ _ _ (ne_eqb v 1 other) ∙ omega arith) in
+      let flag : when◌then◌else◌ (eqb v 1) 1 0 ≡ v = by-eq v 1 (λ one. if-true _ _ _ (eq-eqb v 1 one) ∙ sym one) (λ other. if-false _ _ _ (ne_eqb v 1 other) ∙ omega arith) in
       fields-same s kind_raw c _ k no_event e next w.1 w.2 (one_field kind_raw most1 _ c (Call'.RawNext (eqb v 1)) next w.0 flag tt refl)
 
   report-took : (c : Cursor) (k : CallKind) (e : Event) (next : ℕ) → report_from s c ≡ took k e next → Fields s kind_report c k e next
@@ -210,7 +209,7 @@ module _ (s : List ℕ) (oc : Octets s) where
       fields-same s kind_report c _ k ev e next w.1 w.2 made
 
   -- the six kinds, one after another; no other has a call
-  kind-six : (at kind : ℕ) (c : Cursor) (k : CallKind) (e : Event) (next : ℕ) → if◌then◌else◌ (eqb kind kind_grab) (grab_from s c) (refused_at Kind at) ≡ took k e next → Fields s kind c k e next
+  kind-six : (at kind : ℕ) (c : Cursor) (k : CallKind) (e : Event) (next : ℕ) → when◌then◌else◌ (eqb kind kind_grab) (grab_from s c) (refused_at Kind at) ≡ took k e next → Fields s kind c k e next
   kind-six at kind c k e next q =
       by-eq kind kind_grab
       (λ z. subst (λ (n : ℕ). Fields s n c k e next) (sym z) (grab-took c k e next (sym (if-true _ _ _ (eq-eqb kind kind_grab z)) ∙ q)))
@@ -223,17 +222,17 @@ module _ (s : List ℕ) (oc : Octets s) where
           absurd (omega arith)
 
   kind-five : (at kind : ℕ) (c : Cursor) (k : CallKind) (e : Event) (next : ℕ) →
-      if◌then◌else◌ (eqb kind kind_raw) (raw_from s c) (if◌then◌else◌ (eqb kind kind_grab) (grab_from s c) (refused_at Kind at)) ≡ took k e next → Fields s kind c k e next
+      when◌then◌else◌ (eqb kind kind_raw) (raw_from s c) (when◌then◌else◌ (eqb kind kind_grab) (grab_from s c) (refused_at Kind at)) ≡ took k e next → Fields s kind c k e next
   kind-five at kind c k e next q =
       by-eq kind kind_raw
       (λ z. subst (λ (n : ℕ). Fields s n c k e next) (sym z) (raw-took c k e next (sym (if-true _ _ _ (eq-eqb kind kind_raw z)) ∙ q)))
       (λ n5. kind-six at kind c k e next (sym (if-false _ _ _ (ne_eqb kind kind_raw n5)) ∙ q))
 
   kind-two : (at kind : ℕ) (c : Cursor) (k : CallKind) (e : Event) (next : ℕ) → ((a : ℕ) → c ≡ At a → a ≤ length s) →
-      if◌then◌else◌ (eqb kind kind_tick) (tick_from s c)
-      (if◌then◌else◌ (eqb kind kind_capture) (whole c Call'.Capture no_event)
-      (if◌then◌else◌ (eqb kind kind_direct) (whole c Call'.CaptureDirect no_event)
-      (if◌then◌else◌ (eqb kind kind_raw) (raw_from s c) (if◌then◌else◌ (eqb kind kind_grab) (grab_from s c) (refused_at Kind at))))) ≡ took k e next → Fields s kind c k e next
+      when◌then◌else◌ (eqb kind kind_tick) (tick_from s c)
+      (when◌then◌else◌ (eqb kind kind_capture) (whole c Call'.Capture no_event)
+      (when◌then◌else◌ (eqb kind kind_direct) (whole c Call'.CaptureDirect no_event)
+      (when◌then◌else◌ (eqb kind kind_raw) (raw_from s c) (when◌then◌else◌ (eqb kind kind_grab) (grab_from s c) (refused_at Kind at))))) ≡ took k e next → Fields s kind c k e next
   unfolding numbers_of
   kind-two at kind c k e next in-s q =
       by-eq kind kind_tick

@@ -9,7 +9,7 @@ use lib.Seq.{take-suc, take-suc-set}
 use borrow.Author.Tests.{eq-eqb}
 use Rattle.panel.proofs.Follow.{if-true}
 use Rattle.panel.specs.Points.{fingers}
-use Rattle.panel.specs.Tests.{if◌then◌else◌, ◌=?◌}
+use Rattle.panel.specs.Tests.{when◌then◌else◌, ◌=?◌}
 use Rattle.panel.specs.declared.points.Event.{Event}
 use Rattle.panel.specs.declared.points.Point.{Point}
 use Rattle.gesture.specs.Answers.{points_in_use}
@@ -34,13 +34,13 @@ front : (pts : List Point) (p : Point) → 0 < length pts → take 1 (set pts 0 
 front [] p h = absurd (omega arith)
 front (q ∷ pts) p h = refl
 
-pub one-used : (count : ℕ) (p : Point) (pts : List Point) → count ≡ 1 → 0 < length pts → take (fingers count) (set pts 0 p) ≡ if◌then◌else◌ (count =? 1) (p ∷ []) (take (fingers count) pts)
+pub one-used : (count : ℕ) (p : Point) (pts : List Point) → count ≡ 1 → 0 < length pts → take (fingers count) (set pts 0 p) ≡ when◌then◌else◌ (count =? 1) (p ∷ []) (take (fingers count) pts)
 one-used count p pts one some =
     ap (λ (k : ℕ). take k (set pts 0 p)) (ap fingers one ∙ one-finger)
     ∙ front pts p some
     ∙ sym (if-true _ _ _ (eq-eqb count 1 one))
 
-pub report-law : (time : ℕ) (e : Event) (ps : List Point) → ps ≡ if◌then◌else◌ (e.points =? 1) (e.p ∷ []) (take (fingers e.points) e.pts) →
+pub report-law : (time : ℕ) (e : Event) (ps : List Point) → ps ≡ when◌then◌else◌ (e.points =? 1) (e.p ∷ []) (take (fingers e.points) e.pts) →
     kind_report ∷ time ∷ e.keys ∷ e.points ∷ coordinates ps ≡ numbers_of (report time e)
 unfolding numbers_of points_in_use
 report-law time e ps used = ap (λ (l : List Point). kind_report ∷ time ∷ e.keys ∷ e.points ∷ coordinates l) used

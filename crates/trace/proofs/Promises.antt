@@ -9,7 +9,7 @@ use borrow.Author.Tests.{ne_eqb}
 use Rattle.panel.proofs.Follow.{if-of, if-true, if-false}
 use Rattle.panel.proofs.Promises.{one_answer}
 use Rattle.panel.specs.Refusals.{Told}
-use Rattle.panel.specs.Tests.{if◌then◌else◌, ◌<?◌, ◌=?◌}
+use Rattle.panel.specs.Tests.{when◌then◌else◌, ◌<?◌, ◌=?◌}
 use Rattle.numbers.specs.Numbers.{number_from, told_cursor}
 use Rattle.numbers.specs.Sizes.{most64}
 use Rattle.numbers.specs.declared.reading.Cursor.{Cursor}
@@ -24,7 +24,7 @@ abbrev tells : {A : Type 0} → ℕ → A → Told A
 tells n a = record { number = n; value = a }
 
 -- VERSION, 8, for a first number that is not 1; FILE, 13, for a trace over 65,536 bytes; both at 0.
-pub version-tells : (v next : ℕ) → told_cursor (version_of v (At next)) ≡ if◌then◌else◌ (v =? version) (tells 0 next) (tells 8 0)
+pub version-tells : (v next : ℕ) → told_cursor (version_of v (At next)) ≡ when◌then◌else◌ (v =? version) (tells 0 next) (tells 8 0)
 version-tells v next = if-of told_cursor _ _ _
 
 pub file-tells : (bytes : List ℕ) → most_bytes <? length bytes ≡ true → told_cursor (head_of bytes) ≡ tells 13 0

@@ -9,7 +9,7 @@ use borrow.Author.Tests.{eqb-true, le-leb, lt-leb, le-ltb, eq-eqb}
 use Rattle.panel.proofs.Follow.{if-true, if-false, if-know}
 use Rattle.panel.specs.Points.{fingers}
 use Rattle.panel.specs.Sizes.{max_points}
-use Rattle.panel.specs.Tests.{if◌then◌else◌}
+use Rattle.panel.specs.Tests.{when◌then◌else◌}
 use Rattle.panel.specs.declared.points.Event.{Event}
 use Rattle.panel.specs.declared.points.Point.{Point}
 use Rattle.gesture.specs.Answers.{points_in_use}
@@ -124,7 +124,7 @@ module _ (s : List ℕ) (at : ℕ) (rest : List ℕ) where
 
   -- a call is read back, at every place and whatever follows
   call_back : (c : Call) → Normal c → Holds s at (record_of c ++ rest) → (to : ℕ) × (record_at s at ≡ took (kind_of c) (event_in c) to) × Holds s to (bytes_of_all [] ++ rest)
-  unfolding record_of numbers_of After of_kind if◌then◌else◌ tick_from raw_from grab_from kind_of event_in
+  unfolding record_of numbers_of After of_kind when◌then◌else◌ tick_from raw_from grab_from kind_of event_in
   call_back (report time e) ok h = kind-back kind_report _ (Kind.Report time) e (omega arith) (λ a k. report-back s a time e rest ok k) h
   call_back (tick time) ok h =
       kind-back kind_tick (time ∷ []) (Kind.Tick time) no_event (omega arith)

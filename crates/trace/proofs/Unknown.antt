@@ -10,7 +10,7 @@ use borrow.Author.Tests.{eqb-true, eqb-false, eq-eqb, ne_eqb}
 use Rattle.panel.proofs.Follow.{if-true, if-false, if-know}
 use Rattle.panel.specs.Points.{fingers}
 use Rattle.panel.specs.Refusals.{number_of}
-use Rattle.panel.specs.Tests.{if◌then◌else◌, ◌=?◌}
+use Rattle.panel.specs.Tests.{when◌then◌else◌, ◌=?◌}
 use Rattle.panel.specs.declared.points.Event.{Event}
 use Rattle.gesture.specs.declared.making.CallKind.{CallKind}
 use Rattle.gesture.specs.declared.making.CallKind.TheVariants as Call
@@ -50,7 +50,10 @@ number-other bytes (Stop why at) most o = o
 points-other : (bytes : List ℕ) (c : Cursor) (n : ℕ) → Other c → Other (points_from bytes c n).to
 unfolding points_from
 points-other bytes c zero o = o
-points-other bytes c (suc n) o = points-other bytes _ n (number-other bytes _ most16 (number-other bytes c most16 o))
+points-other bytes c (suc n) o =
+    let x = number_from bytes c most16 in
+    let y = number_from bytes x.to most16 in
+    points-other bytes y.to n (number-other bytes x.to most16 (number-other bytes c most16 o))
 
 -- a record that is read tells of no unknown kind
 abbrev Unknown : ReadAnswer → Type 0
@@ -85,7 +88,7 @@ module _ (bytes : List ℕ) (c : Cursor) (o : Other c) where
   grab-other = let ms = number_from bytes c most16 in whole-other ms.to (Call.SetGrabMs ms.v) no_event (number-other bytes c most16 o)
 
 -- a kind that tells of no unknown kind is passed over
-passed : (a b : ℕ) (x y : ReadAnswer) → (Unknown x → ⊥) → Unknown (if◌then◌else◌ (a =? b) x y) → (a ≡ b → ⊥) × Unknown y
+passed : (a b : ℕ) (x y : ReadAnswer) → (Unknown x → ⊥) → Unknown (when◌then◌else◌ (a =? b) x y) → (a ≡ b → ⊥) × Unknown y
 passed a b x y never u =
     by-eq a b
     (λ z. absurd (never (subst Unknown (if-true _ _ _ (eq-eqb a b z)) u)))

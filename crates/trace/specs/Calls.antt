@@ -6,7 +6,7 @@
 use Rattle.std.specs.Prelude.{ℕ, List, [], ◌∷◌, ◌++◌}
 use Rattle.gesture.specs.Answers.{points_in_use}
 use Rattle.gesture.specs.Calls.{Call, report, tick, capture, capture_direct, raw_next, set_grab_ms}
-use Rattle.panel.specs.Tests.{if◌then◌else◌}
+use Rattle.panel.specs.Tests.{when◌then◌else◌}
 use Rattle.panel.specs.declared.points.Point.{Point}
 use Rattle.numbers.specs.Numbers.{bytes_of, bytes_of_all}
 use Rattle.trace.specs.Sizes.{version, kind_report, kind_tick, kind_capture, kind_direct, kind_raw, kind_grab}
@@ -21,7 +21,7 @@ numbers_of (report time e) = kind_report ∷ time ∷ e.keys ∷ e.points ∷ co
 numbers_of (tick time) = kind_tick ∷ time ∷ []
 numbers_of capture = kind_capture ∷ []
 numbers_of capture_direct = kind_direct ∷ []
-numbers_of (raw_next on) = kind_raw ∷ (if on then 1 else 0) ∷ []
+numbers_of (raw_next on) = kind_raw ∷ (when on then 1 else 0) ∷ []
 numbers_of (set_grab_ms ms) = kind_grab ∷ ms ∷ []
 
 unfoldable pub record_of : Call → List ℕ

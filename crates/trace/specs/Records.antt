@@ -8,7 +8,7 @@ use Rattle.gesture.specs.Calls.{Call, call_by}
 use Rattle.panel.specs.Points.{fingers}
 use Rattle.panel.specs.Refusals.{Told, answered, refused}
 use Rattle.panel.specs.Sizes.{max_points}
-use Rattle.panel.specs.Tests.{if◌then◌else◌, ◌=?◌}
+use Rattle.panel.specs.Tests.{when◌then◌else◌, ◌=?◌}
 use Rattle.panel.specs.declared.points.Event.{Event}
 use Rattle.panel.specs.declared.points.Point.{Point}
 use Rattle.panel.specs.declared.refusals.Refusal.{Refusal}
@@ -22,7 +22,6 @@ use Rattle.gesture.specs.declared.making.CallKind.{CallKind}
 use Rattle.gesture.specs.declared.making.CallKind.TheVariants.{Report, Tick, Capture, CaptureDirect, RawNext, SetGrabMs}
 use Rattle.trace.specs.declared.records.ReadAnswer.{ReadAnswer}
 use Rattle.trace.specs.declared.records.Taken.{Taken}
-use Rattle.trace.specs.declared.records.Taken.TheVariants as Taken
 
 abbrev pub nowhere : Point
 nowhere = record { x = 0; y = 0 }
@@ -56,7 +55,7 @@ filled ps = take max_points (ps ++ no_points)
 
 unfoldable pub event_of : ℕ → ℕ → List Point → Event
 event_of keys count ps =
-    record { points = count; p = first_of ps; pts = if count =? 1 then no_points else filled ps; keys = keys }
+    record { points = count; p = first_of ps; pts = when count =? 1 then no_points else filled ps; keys = keys }
 
 -- a call where its record is whole
 abbrev pub refused_at : Refusal → ℕ → ReadAnswer
@@ -86,12 +85,12 @@ grab_from bytes c = let ms = number_from bytes c most16 in whole ms.to (SetGrabM
 -- the record at a place, of a kind, whose fields begin at c
 unfoldable pub of_kind : List ℕ → ℕ → ℕ → Cursor → ReadAnswer
 of_kind bytes at kind c =
-    if kind =? kind_report then report_from bytes c
-    else if kind =? kind_tick then tick_from bytes c
-    else if kind =? kind_capture then whole c Capture no_event
-    else if kind =? kind_direct then whole c CaptureDirect no_event
-    else if kind =? kind_raw then raw_from bytes c
-    else if kind =? kind_grab then grab_from bytes c
+    when kind =? kind_report then report_from bytes c
+    else when kind =? kind_tick then tick_from bytes c
+    else when kind =? kind_capture then whole c Capture no_event
+    else when kind =? kind_direct then whole c CaptureDirect no_event
+    else when kind =? kind_raw then raw_from bytes c
+    else when kind =? kind_grab then grab_from bytes c
     else refused_at Kind at
 
 abbrev pub opened : List ℕ → ℕ → ℕ → Cursor → ReadAnswer

@@ -3,7 +3,7 @@
 -- "Version, then records". "An empty trace is CUT." "8 VERSION: trace's first number is not 1"; "13 FILE: trace over 65,536
 -- bytes"; "`stopped R at O` (offset of the number's first byte or, if missing, the length; 0 for FILE)".
 use Rattle.std.specs.Prelude.{ℕ, zero, suc, List, [], ◌∷◌, length}
-use Rattle.panel.specs.Tests.{if◌then◌else◌, ◌≤?◌, ◌<?◌, ◌=?◌}
+use Rattle.panel.specs.Tests.{when◌then◌else◌, ◌≤?◌, ◌<?◌, ◌=?◌}
 use Rattle.panel.specs.declared.refusals.Refusal.{Refusal}
 use Rattle.panel.specs.declared.refusals.Refusal.TheVariants.{Version, File}
 use Rattle.gesture.specs.Calls.{Call, call_by}
@@ -15,7 +15,6 @@ use Rattle.numbers.specs.declared.reading.Cursor.{Cursor}
 use Rattle.numbers.specs.declared.reading.Cursor.TheVariants.{At, Stop}
 use Rattle.trace.specs.declared.records.ReadAnswer.{ReadAnswer}
 use Rattle.trace.specs.declared.records.Taken.{Taken}
-use Rattle.trace.specs.declared.records.Taken.TheVariants as Taken
 
 -- how a trace ends: with its bytes, or where reading stopped
 pub data Ending : Type 0 where
@@ -41,16 +40,16 @@ and_on rest r (Taken.Refused why at) = stopped_at why at
 unfoldable pub records_from : ℕ → List ℕ → ℕ → Traced
 records_from zero bytes at = record { calls = []; ending = ends }
 records_from (suc most) bytes at =
-    if length bytes ≤? at then record { calls = []; ending = ends }
+    when length bytes ≤? at then record { calls = []; ending = ends }
     else and_on (λ next. records_from most bytes next) (record_at bytes at) (record_at bytes at).taken
 
 -- where the records begin, after the version
 abbrev pub version_of : ℕ → Cursor → Cursor
-version_of v (At next) = if v =? version then At next else Stop Version 0
+version_of v (At next) = when v =? version then At next else Stop Version 0
 version_of v (Stop why at) = Stop why at
 
 unfoldable pub head_of : List ℕ → Cursor
-head_of bytes = if most_bytes <? length bytes then Stop File 0 else (let v = number_from bytes (At 0) most64 in version_of v.v v.to)
+head_of bytes = when most_bytes <? length bytes then Stop File 0 else (let v = number_from bytes (At 0) most64 in version_of v.v v.to)
 
 abbrev pub from_head : List ℕ → Cursor → Traced
 from_head bytes (At at) = records_from (length bytes) bytes at

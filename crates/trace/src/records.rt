@@ -13,28 +13,28 @@ use numbers::{Cursor, MOST_64};
 use panel::{Event, MAX_POINTS, Point, Refusal};
 
 // What reading a record comes to: a call and where the next record begins, or a refusal and its place.
-#[derive(Drop)]
+#[derive(Clone, Copy)]
 pub enum Taken {
     Call(CallKind, usize),
     Refused(Refusal, usize),
 }
 
 // `event` is the report of a Report, and all zero elsewhere.
-#[derive(Drop)]
+#[derive(Clone, Copy)]
 pub struct ReadAnswer {
     pub taken: Taken,
     pub event: Event,
 }
 
 // A point that was read, and where it ends.
-#[derive(Drop)]
+#[derive(Clone, Copy)]
 struct PointRead {
     p: Point,
     to: Cursor,
 }
 
 // Points that were read, the others zero, and where they end.
-#[derive(Drop)]
+#[derive(Clone, Copy)]
 struct PointsRead {
     pts: [Point; MAX_POINTS],
     to: Cursor,

@@ -1,7 +1,7 @@
 // A call as a record of the trace, into lent bytes. The record's numbers are gathered first, so that
 // its length is known before a byte is written: a record that does not fit leaves the room as it was.
 ghost use Rattle.std.specs.Prelude.{◌≡◌, ◌≤◌, [], ◌∷◌, take};
-ghost use Rattle.panel.specs.Tests.{if◌then◌else◌, ◌=?◌};
+ghost use Rattle.panel.specs.Tests.{when◌then◌else◌, ◌=?◌};
 ghost use Rattle.panel.specs.Points.{fingers};
 ghost use Rattle.gesture.specs.Calls.{call_by, call_of, report};
 ghost use Rattle.numbers.specs.Numbers.{bytes_of};
@@ -16,7 +16,7 @@ use numbers::WriteAnswer;
 use panel::{Event, MAX_POINTS, Point, wide8, wide16};
 
 // The numbers of a record: the first n.
-#[derive(Drop)]
+#[derive(Clone, Copy)]
 struct Gathered {
     v: [u64; MOST_NUMBERS],
     n: usize,
@@ -24,7 +24,7 @@ struct Gathered {
 
 // The points of a report, those in use in front: for one finger that is `p`.
 fn used_first(count: u8, p: Point, pts: [Point; MAX_POINTS]) -> [Point; MAX_POINTS]
-    ensures { take (fingers count) result ≡ if◌then◌else◌ (count =? 1) (p ∷ []) (take (fingers count) pts) }
+    ensures { take (fingers count) result ≡ when◌then◌else◌ (count =? 1) (p ∷ []) (take (fingers count) pts) }
 {
     if count == 1 {
         let mut used = pts;
@@ -77,7 +77,7 @@ fn short(kind: u64, v: u64, n: usize) -> Gathered
 }
 
 fn flag(b: bool) -> u64
-    ensures { result ≡ if◌then◌else◌ b 1 0 }
+    ensures { result ≡ when◌then◌else◌ b 1 0 }
 {
     if b {
         return 1;

@@ -1,7 +1,7 @@
 -- A report is read point by point into an array of zeros: one point, and the report made of points that are filled up
 -- already.
 use Rattle.std.specs.Prelude.{ℕ, List, get_or}
-use Rattle.panel.specs.Tests.{if◌then◌else◌, ◌=?◌}
+use Rattle.panel.specs.Tests.{when◌then◌else◌, ◌=?◌}
 use Rattle.panel.specs.declared.points.Event.{Event}
 use Rattle.panel.specs.declared.points.Point.{Point}
 use Rattle.numbers.specs.Numbers.{number_from}
@@ -18,4 +18,4 @@ point_from bytes c =
 
 unfoldable pub event_with : ℕ → ℕ → List Point → Event
 event_with keys count pts =
-    record { points = count; p = get_or pts 0 nowhere; pts = if count =? 1 then no_points else pts; keys = keys }
+    record { points = count; p = get_or pts 0 nowhere; pts = when count =? 1 then no_points else pts; keys = keys }
