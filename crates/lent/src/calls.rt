@@ -1,5 +1,5 @@
-// The public calls on a lent tracker. Each is proved by hand: the reference is opened, the record is copied out
-// whole and passed by value, and the new one is stored whole.
+// The public calls on a lent tracker. In each the record is copied out whole and passed by value, and the new one is
+// stored whole.
 ghost use Rattle.std.specs.Prelude.{◌≡◌};
 ghost use Rattle.gesture.specs.Answers.{event_of, tick_of, capture_of, capture_direct_of, raw_next_of, set_grab_of, grab_of};
 ghost use Rattle.lent.specs.Lent.{TellsAndLeaves, grab_response_of};

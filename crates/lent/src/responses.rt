@@ -4,7 +4,7 @@ ghost use Rattle.lent.specs.Lent.{response_of, grab_response_of};
 
 use gesture::{Answer, Given, GrabAnswer, Log};
 
-#[derive(Drop)]
+#[derive(Clone, Copy)]
 pub struct Response {
     // 0, or why the call was refused.
     pub refusal: u8,
@@ -13,12 +13,13 @@ pub struct Response {
 }
 
 // The grab time beside what is told: 0 for a refused call.
-#[derive(Drop)]
+#[derive(Clone, Copy)]
 pub struct GrabResponse {
     pub ms: u16,
     pub told: Response,
 }
 
+#[tactic(auto, unfolding(crate::specs::Lent::response_of))]
 pub(crate) fn response_of(a: Answer) -> Response
     ensures { result ≡ response_of a }
 {
@@ -31,6 +32,7 @@ pub(crate) fn response_of(a: Answer) -> Response
     }
 }
 
+#[tactic(auto, unfolding(crate::specs::Lent::grab_response_of))]
 pub(crate) fn grab_response_of(g: GrabAnswer) -> GrabResponse
     ensures { result ≡ grab_response_of g }
 {
