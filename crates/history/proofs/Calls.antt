@@ -29,7 +29,7 @@ use Rattle.gesture.specs.declared.record.Touch.{Touch}
 use Rattle.gesture.specs.declared.record.Tracker.{Tracker}
 use Rattle.panel.proofs.Follow.{if-true, if-false, if-all}
 use Rattle.panel.specs.Points.{all_on_panel}
-use Rattle.panel.specs.Tests.{if◌then◌else◌}
+use Rattle.panel.specs.Tests.{when◌then◌else◌}
 use Rattle.panel.specs.declared.points.Event.{Event}
 use Rattle.history.specs.Demand.{NextChange, Tells, SeveralSilent, DownAtOnce, ExceptedSilent, Repeats}
 use Rattle.history.specs.Gestures.{tells_key}
@@ -269,7 +269,7 @@ module _ (t : Tracker) (s : Seen) (i : Together t s) where
   abbrev Quiet : Answer → Type 0
   Quiet a = (a.refusal ≡ 0) × (a.gesture ≡ Nothing) × Leaves t a.tracker
 
-  quiet_of : (b : Bool) (x y : Answer) → b ≡ true → Quiet x → Quiet (if◌then◌else◌ b x y)
+  quiet_of : (b : Bool) (x y : Answer) → b ≡ true → Quiet x → Quiet (when◌then◌else◌ b x y)
   quiet_of b x y e q = subst Quiet (sym (if-true b x y e)) q
 
   capture-quiet : Quiet (capture_of t)

@@ -33,7 +33,7 @@ use Rattle.panel.specs.Axes.{axis_of, lock_of}
 use Rattle.panel.specs.Centroids.{total, mean, middle}
 use Rattle.panel.specs.Distances.{difference, distance, distance2}
 use Rattle.panel.specs.Points.{on_panel, all_on_panel, fingers}
-use Rattle.panel.specs.Tests.{if◌then◌else◌, ◌and◌, ◌or◌, ◌=?◌}
+use Rattle.panel.specs.Tests.{when◌then◌else◌, ◌and◌, ◌or◌, ◌=?◌}
 use Rattle.panel.specs.declared.axes.Axis.TheVariants.{H}
 use Rattle.panel.specs.declared.points.Point.{Point}
 use Rattle.history.specs.Orders.{Commute, wish_meets_touch, CaptureTwice, LaterWish, CaptureTick}
@@ -198,7 +198,7 @@ down_with grab one app = whole (set_grab unset grab) (keys_at 0 0) (touch.Down (
 
 -- All of them by computing.
 computed : Worked × Turned
-unfolding heard history run after wish_meets_touch event_of tick_of capture_of capture_direct_of raw_next_of set_grab_of answered given_by points_in_use reported ticked captured takes taken wished after_capture_direct after_set_grab up_outcome end_stored all_up is_last_finger residual_touch new_touch touch_down goes_on one_finger two_start two more_start more several two_of more_of fingers_of keys_then_fingers report_step held_points centroids span_rule pair_rule most_rule raw_rule state_rule still_down keys_then_hold tick_step fresh_tracker is_active whole touched keyed owned settled unset set_raw set_grab reset set_grabbed set_long_sent set_axis untaken set_captured set_direct hold_of grab_due long_from long_due held_still without lowest flipped key_step count_trailing_zeros early_now tracked same_point move_from axis_at drag_along may_drag moving grab_or_moving later_report span_along pair_axis new_pair keeps_order state_next pair_at pair_next span_told pinch_of tap_or_note is_swipe swipe_or_note release_by release_of multi_from multi_grown multi_seen pinch_or_seen two_fingers pinch_end_or_seen three_fingers far_down swiped_down multi_rule is_pinch multi_end axis_of lock_of total mean middle difference distance distance2 on_panel all_on_panel fingers if◌then◌else◌ ◌and◌ ◌or◌
+unfolding heard history run after wish_meets_touch event_of tick_of capture_of capture_direct_of raw_next_of set_grab_of answered given_by points_in_use reported ticked captured takes taken wished after_capture_direct after_set_grab up_outcome end_stored all_up is_last_finger residual_touch new_touch touch_down goes_on one_finger two_start two more_start more several two_of more_of fingers_of keys_then_fingers report_step held_points centroids span_rule pair_rule most_rule raw_rule state_rule still_down keys_then_hold tick_step fresh_tracker is_active whole touched keyed owned settled unset set_raw set_grab reset set_grabbed set_long_sent set_axis untaken set_captured set_direct hold_of grab_due long_from long_due held_still without lowest flipped key_step count_trailing_zeros early_now tracked same_point move_from axis_at drag_along may_drag moving grab_or_moving later_report span_along pair_axis new_pair keeps_order state_next pair_at pair_next span_told pinch_of tap_or_note is_swipe swipe_or_note release_by release_of multi_from multi_grown multi_seen pinch_or_seen two_fingers pinch_end_or_seen three_fingers far_down swiped_down multi_rule is_pinch multi_end axis_of lock_of total mean middle difference distance distance2 on_panel all_on_panel fingers when◌then◌else◌ ◌and◌ ◌or◌
 computed = (
   record {
     lingering-finger = refl;

@@ -21,14 +21,14 @@ use Rattle.gesture.specs.declared.record.Touch.TheVariants.{Idle, Down, Multi, R
 use Rattle.panel.proofs.Follow.{if-all}
 use Rattle.panel.proofs.Laws.{and_left, and_right}
 use Rattle.panel.specs.Tests as tests
-use Rattle.panel.specs.Tests.{if◌then◌else◌, ◌and◌, ◌=?◌}
+use Rattle.panel.specs.Tests.{when◌then◌else◌, ◌and◌, ◌=?◌}
 use Rattle.panel.specs.declared.points.Point.{Point}
 use Rattle.history.proofs.Parts.{still_by}
 
 -- by whether a Grab is due, and a LongPress
 unfoldable pub due : Bool → Bool → Point → One → OneStep
 due grab long start o =
-    if◌then◌else◌ grab (step (Gives (Grab start)) (set_grabbed o)) (if◌then◌else◌ long (step (Gives (LongPress start)) (set_long_sent o)) (step Quiet o))
+    when◌then◌else◌ grab (step (Gives (Grab start)) (set_grabbed o)) (when◌then◌else◌ long (step (Gives (LongPress start)) (set_long_sent o)) (step Quiet o))
 
 not_so : (b : Bool) → not b ≡ true → b ≡ false
 not_so true e = sym e
@@ -82,7 +82,7 @@ New o grab long = (grab ≡ true → o.grabbed ≡ false) × (long ≡ true → 
 
 module _ (start : Point) (o : One) where
   due-alike : (g l g' l' : Bool) → New o g l → New o g' l' → Alike (due g l start o) (due g' l' start o)
-  unfolding due given_by set_grabbed set_long_sent tests.if◌then◌else◌
+  unfolding due given_by set_grabbed set_long_sent tests.when◌then◌else◌
   due-alike true l true l' n n' = (λ e. refl, λ e. refl)
   due-alike true l false true n n' = (differ grabbed refl (n.0 refl), differ is_grab refl refl)
   due-alike true l false false n n' = (differ grabbed refl (n.0 refl), differ is_grab refl refl)
@@ -129,21 +129,21 @@ GivesNoGrab s = (p : Point) → given_by s.out ≡ Gave (Grab p) → ⊥
 
 module _ (start : Point) (o : One) where
   none-due : (l : Bool) → GivesNoGrab (due false l start o)
-  unfolding due given_by tests.if◌then◌else◌
+  unfolding due given_by tests.when◌then◌else◌
   none-due true p e = differ is_long refl refl e
   none-due false p e = differ is_grab refl refl (sym e)
 
   without-grab : (g l : Bool) → GivesNoGrab (due g l start o) → due false l start o ≡ due g l start o
-  unfolding due given_by tests.if◌then◌else◌
+  unfolding due given_by tests.when◌then◌else◌
   without-grab true l none = absurd (none start refl)
   without-grab false l none = refl
 
 module _ (o : One) (app : App) (set set' : Settings) (now : ℕ) where
   abbrev directly : Touch → OneStep
-  directly x = still_by x o (if◌then◌else◌ (is_active x) (set_direct app) app) set' now
+  directly x = still_by x o (when◌then◌else◌ (is_active x) (set_direct app) app) set' now
 
   direct_is : (start : Point) (since : ℕ) → directly (Down start since) ≡ due false (long_now o app set' since now) start o
-  unfolding still_by held_still due hold_of grab_due is_active set_direct tests.if◌then◌else◌ tests.◌and◌
+  unfolding still_by held_still due hold_of grab_due is_active set_direct tests.when◌then◌else◌ tests.◌and◌
   direct_is start since = refl
 
   pub direct-none : (x : Touch) → GivesNoGrab (directly x)

@@ -13,7 +13,7 @@ use borrow.Author.Tests.{eqb-true, eq-eqb}
 use Rattle.fingers.proofs.Bytes.{both, both_left, both_right, every, below, lowest-is-set}
 use Rattle.fingers.proofs.KeyMasks.{bit_at, without-bit, flipped-bit, flipped-rest}
 use Rattle.fingers.specs.Keys.{without, lowest, flipped}
-use Rattle.panel.specs.Tests.{if◌then◌else◌, ◌and◌}
+use Rattle.panel.specs.Tests.{when◌then◌else◌, ◌and◌}
 use Rattle.history.specs.Keys.{has, filter, all_keys, lacking}
 
 abbrev pub xor : Bool → Bool → Bool
@@ -50,9 +50,9 @@ pub has-flip : (a c e : ℕ) → c < 8 → e < 8 → has (flipped a c) e ≡ xor
 has-flip a c e k l = has-flip-by a c e k l (eqb c e) refl
 
 -- a bit turned over is put in or taken out
-pub flip_is : (a c : ℕ) → a < 256 → c < 8 → flipped a c ≡ if◌then◌else◌ (has a c) (a - 2 ^ c) (a + 2 ^ c)
-unfolding has flipped if◌then◌else◌
-flip_is a c h k = eqb→eq _ _ (at_key (λ a c. eqb (flipped a c) (if◌then◌else◌ (has a c) (a - 2 ^ c) (a + 2 ^ c))) tt a c h k)
+pub flip_is : (a c : ℕ) → a < 256 → c < 8 → flipped a c ≡ when◌then◌else◌ (has a c) (a - 2 ^ c) (a + 2 ^ c)
+unfolding has flipped when◌then◌else◌
+flip_is a c h k = eqb→eq _ _ (at_key (λ a c. eqb (flipped a c) (when◌then◌else◌ (has a c) (a - 2 ^ c) (a + 2 ^ c))) tt a c h k)
 
 pub flip-lt : (a c : ℕ) → a < 256 → c < 8 → flipped a c < 256
 unfolding flipped
@@ -71,13 +71,13 @@ alike_is [] (b ∷ bs) t = absurd t
 alike_is (a ∷ xs) [] t = absurd t
 alike_is (a ∷ xs) (b ∷ bs) t = ap₂ (λ (c : ℕ) (cs : List ℕ). c ∷ cs) (eqb→eq a b (both_left (eqb a b) (alike xs bs) t)) (alike_is xs bs (both_right (eqb a b) (alike xs bs) t))
 
-abbrev low-test : ℕ → Bool
-low-test zero = true
-low-test (suc m) = alike (filter (has (suc m)) all_keys) (lowest (suc m) ∷ filter (has (flipped (suc m) (lowest (suc m)))) all_keys)
+abbrev low_test : ℕ → Bool
+low_test zero = true
+low_test (suc m) = alike (filter (has (suc m)) all_keys) (lowest (suc m) ∷ filter (has (flipped (suc m) (lowest (suc m)))) all_keys)
 
-low-tested : (m : ℕ) → m < 256 → T (low-test m)
+low-tested : (m : ℕ) → m < 256 → T (low_test m)
 unfolding has filter lowest flipped count_trailing_zeros
-low-tested m h = below low-test 256 tt m h
+low-tested m h = below low_test 256 tt m h
 
 pub low-keys : (m : ℕ) → zero < m → m < 256 → filter (has m) all_keys ≡ lowest m ∷ filter (has (flipped m (lowest m))) all_keys
 low-keys zero p h = absurd (not-suc-le-zero p)

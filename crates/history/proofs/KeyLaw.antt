@@ -15,7 +15,7 @@ use Rattle.fingers.specs.declared.gestures.Gesture.TheVariants.{KeyUp, KeyDown}
 use Rattle.fingers.specs.declared.keys.KeyStep.{KeyStep}
 use Rattle.fingers.specs.declared.keys.KeyStep.TheVariants.{Same, Flipped}
 use Rattle.panel.proofs.Follow.{if-true, if-false}
-use Rattle.panel.specs.Tests.{if◌then◌else◌}
+use Rattle.panel.specs.Tests.{when◌then◌else◌}
 use Rattle.history.specs.Keys.{has, filter, all_keys, lacking, changes, told_by}
 use Rattle.history.proofs.KeyBits.{flip_is, flip-lt, low-has, low-keys, no_keys, more-is, lacks-lt, out-more, out-others, in-more, in-others, in-first, not-second}
 
@@ -32,11 +32,11 @@ KeyIs a b [] k = k ≡ Same
 KeyIs a b (g ∷ gs) k = Tells a b g gs k
 
 told-up : (a c : ℕ) → a < 256 → c < 8 → has a c ≡ true → told_by a (KeyUp c) ≡ flipped a c
-unfolding if◌then◌else◌
+unfolding when◌then◌else◌
 told-up a c h k e = rw (flip_is a c h k, e)
 
 told-down : (a c : ℕ) → a < 256 → c < 8 → has a c ≡ false → told_by a (KeyDown c) ≡ flipped a c
-unfolding if◌then◌else◌
+unfolding when◌then◌else◌
 told-down a c h k e = rw (flip_is a c h k, e)
 
 made : (a b : ℕ) (g : Gesture) (gs : List Gesture) (k : KeyStep) (a' : ℕ) → told_by a g ≡ a' → k ≡ Flipped g a' → is_key_change g ≡ true → is_one_finger g ≡ false → a' < 256 → changes a' b ≡ gs → Tells a b g gs k

@@ -23,7 +23,7 @@ use Rattle.gesture.specs.declared.lines.Log.TheVariants.{Silent}
 use Rattle.gesture.specs.declared.record.Tracker.{Tracker}
 use Rattle.panel.proofs.Follow.{if-of, if-true, if-false}
 use Rattle.panel.specs.Tests as tests
-use Rattle.panel.specs.Tests.{if◌then◌else◌, ◌and◌}
+use Rattle.panel.specs.Tests.{when◌then◌else◌, ◌and◌}
 use Rattle.panel.specs.declared.points.Point.{Point}
 use Rattle.history.specs.Orders.{AnswersAlike, Setting, logs, Lines}
 use Rattle.history.proofs.Held.{Alike, still_alike, still-there}
@@ -32,7 +32,7 @@ use Rattle.history.proofs.Parts.{Tells, log_of, behind, settings_by, app_by, wit
 
 -- what a capture logs on any tracker that keeps the rule
 abbrev capture_log : Tracker → Log
-capture_log t = if◌then◌else◌ (takes t) (capture_line t.settings.raw_next t.one.last) Silent
+capture_log t = when◌then◌else◌ (takes t) (capture_line t.settings.raw_next t.one.last) Silent
 
 capture-logs : Tells capture log_of capture_log
 capture-logs t h = ap log_of (capture-tells t ∙ if-true _ _ _ h) ∙ if-of log_of (takes t) _ _
@@ -40,13 +40,13 @@ capture-logs t h = ap log_of (capture-tells t ∙ if-true _ _ _ h) ∙ if-of log
 -- neither capture leaves a touch to take
 module _ (t : Tracker) where
   none_left : (active captured : Bool) → is_active t.touch ≡ active → t.app.captured ≡ captured → takes (left t capture) ≡ false
-  unfolding left with whole takes tests.if◌then◌else◌ tests.◌and◌ set_captured
+  unfolding left with whole takes tests.when◌then◌else◌ tests.◌and◌ set_captured
   none_left false c on is = rw on refl
   none_left true true on is = rw (on, is) refl
   none_left true false on is = rw (on, is) refl
 
   none-direct : (active : Bool) → is_active t.touch ≡ active → takes (left t capture_direct) ≡ false
-  unfolding left with whole takes tests.if◌then◌else◌ tests.◌and◌ set_direct
+  unfolding left with whole takes tests.when◌then◌else◌ tests.◌and◌ set_direct
   none-direct false on = rw on refl
   none-direct true on = rw on refl
 
@@ -68,7 +68,7 @@ module _ (t : Tracker) (h : state_rule t ≡ true) where
   unfolding takes marked whole
   behind-tick now =
       behind log_of (tick now) capture (λ (u : Tracker). left_in u now) capture_log (tick-leaves now) capture-logs t h
-      ∙ ap (λ (p : Point). if◌then◌else◌ (takes t) (capture_line t.settings.raw_next p) Silent) (key-there (key_of t) t.one (still_of t now) (still-there t.touch t.one t.app t.settings now))
+      ∙ ap (λ (p : Point). when◌then◌else◌ (takes t) (capture_line t.settings.raw_next p) Silent) (key-there (key_of t) t.one (still_of t now) (still-there t.touch t.one t.app t.settings now))
       ∙ sym (capture-logs t h)
 
   tick-behind : (c : Call) → Setting c → (now : ℕ) → AnswersAlike t c (tick now) → logs (after t (c ∷ [])) (tick now) ≡ logs t (tick now)

@@ -95,7 +95,7 @@ on-several off e = no_way (sym e)
 on-several (on u) e = (u, refl, e)
 
 over-several : (o : On) (b : Before) (now : ℕ) → had_several o ≡ true → over o b now ≡ many_until now
-unfolding tests.if◌then◌else◌
+unfolding tests.when◌then◌else◌
 over-several off b now e = no_way (sym e)
 over-several (on u) b now e = rw e
 
@@ -120,7 +120,7 @@ module _ (s : Seen) (now : ℕ) where
   up = record { keys = s.keys; touch = off; before = over s.touch s.before now }
 
   up-moved : (x : record-touch.Touch) (t : Tracker) → Fits x s.touch → EndFits x t.multi_end s.before → Moved t s (up_outcome x t.one t.app now) (touched t touch.Idle t.one t.app (end_stored x t.multi_end now)) up
-  unfolding up_outcome end_stored touched whole given_by tests.if◌then◌else◌ tests.◌and◌
+  unfolding up_outcome end_stored touched whole given_by tests.when◌then◌else◌ tests.◌and◌
   up-moved touch.Idle t f e = record {
     no_key = refl;
     keys = refl;

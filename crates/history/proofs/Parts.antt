@@ -38,7 +38,7 @@ use Rattle.gesture.specs.declared.record.Touch.{Touch}
 use Rattle.gesture.specs.declared.record.Touch.TheVariants.{Idle, Down, Multi, Residual}
 use Rattle.gesture.specs.declared.record.Tracker.{Tracker}
 use Rattle.panel.proofs.Follow.{if-of, if-true}
-use Rattle.panel.specs.Tests.{if◌then◌else◌, ◌and◌}
+use Rattle.panel.specs.Tests.{when◌then◌else◌}
 use Rattle.history.specs.Orders.{Setting}
 
 -- What a call tells, or leaves, of every tracker that keeps the rule; and behind another call.
@@ -80,8 +80,8 @@ settings_by (set_grab_ms ms) set = set_grab set (min ms grab_most)
 abbrev pub app_by : Call → Tracker → App
 app_by (report now ev) t = t.app
 app_by (tick now) t = t.app
-app_by capture t = if◌then◌else◌ (takes t) (set_captured t.app t.settings.raw_next) t.app
-app_by capture_direct t = if◌then◌else◌ (is_active t.touch) (set_direct t.app) t.app
+app_by capture t = when◌then◌else◌ (takes t) (set_captured t.app t.settings.raw_next) t.app
+app_by capture_direct t = when◌then◌else◌ (is_active t.touch) (set_direct t.app) t.app
 app_by (raw_next on) t = t.app
 app_by (set_grab_ms ms) t = t.app
 

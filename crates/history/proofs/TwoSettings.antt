@@ -35,20 +35,20 @@ raw-off false captured rule is = refl
 
 module _ (t : Tracker) where
   once : (active captured : Bool) → is_active t.touch ≡ active → t.app.captured ≡ captured → app_after capture capture t ≡ app_by capture t
-  unfolding left with whole takes tests.if◌then◌else◌ tests.◌and◌ set_captured
+  unfolding left with whole takes tests.when◌then◌else◌ tests.◌and◌ set_captured
   once false c on is = rw on refl
   once true true on is = rw (on, is) refl
   once true false on is = rw (on, is) refl
 
   direct-once : (active : Bool) → is_active t.touch ≡ active → app_after capture_direct capture_direct t ≡ app_by capture_direct t
-  unfolding left with whole tests.if◌then◌else◌ set_direct
+  unfolding left with whole tests.when◌then◌else◌ set_direct
   direct-once false on = rw on refl
   direct-once true on = rw on refl
 
   -- the first of the two makes the touch raw or not
   wish-once : (active captured wish : Bool) → is_active t.touch ≡ active → t.app.captured ≡ captured → t.settings.raw_next ≡ wish → raw_rule t.app ≡ true →
       (app_after capture capture_direct t ≡ app_after capture_direct capture t) exactlyIf (wish_meets_touch t ≡ false)
-  unfolding wish_meets_touch left with whole takes tests.if◌then◌else◌ tests.◌and◌ set_captured set_direct set_raw raw_rule
+  unfolding wish_meets_touch left with whole takes tests.when◌then◌else◌ tests.◌and◌ set_captured set_direct set_raw raw_rule
   wish-once false c w on is wished rule = rw on (λ same. refl, λ none. refl)
   wish-once true true w on is wished rule = rw (on, is) (λ same. refl, λ none. refl)
   wish-once true false true on is wished rule =
@@ -60,7 +60,7 @@ module _ (t : Tracker) where
   -- a wish that is withdrawn behind the capture, and before it
   wish-late : (active captured wish : Bool) → is_active t.touch ≡ active → t.app.captured ≡ captured → t.settings.raw_next ≡ wish →
       (app_after capture (raw_next false) t ≡ app_after (raw_next false) capture t) exactlyIf (wish_meets_touch t ≡ false)
-  unfolding wish_meets_touch left with whole takes tests.if◌then◌else◌ tests.◌and◌ set_captured set_raw
+  unfolding wish_meets_touch left with whole takes tests.when◌then◌else◌ tests.◌and◌ set_captured set_raw
   wish-late false c w on is wished = rw on (λ same. refl, λ none. refl)
   wish-late true true w on is wished = rw (on, is) (λ same. refl, λ none. refl)
   wish-late true false true on is wished = rw (on, is) (λ same. differ (λ (a : App). a.raw) wished refl same, λ none. differ (λ (b : Bool). b) wished refl none)

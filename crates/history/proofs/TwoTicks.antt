@@ -7,7 +7,6 @@ use mathlib.Core.Logic.{inl, inr, ⊎_elim}
 use Rattle.fingers.specs.Fields.{set_grabbed, set_long_sent}
 use Rattle.fingers.specs.Holds.{hold_of, is_on, grab_due, long_due, held_still}
 use Rattle.fingers.specs.Keys.{key_step}
-use Rattle.fingers.specs.declared.keys.Keys.{Keys}
 use Rattle.fingers.specs.declared.keys.KeyStep.{KeyStep}
 use Rattle.fingers.specs.declared.keys.KeyStep.TheVariants.{Same, Flipped}
 use Rattle.fingers.specs.declared.one.App.{App}
@@ -24,7 +23,7 @@ use Rattle.gesture.specs.declared.record.Touch.{Touch}
 use Rattle.gesture.specs.declared.record.Touch.TheVariants.{Idle, Down, Multi, Residual}
 use Rattle.gesture.specs.declared.record.Tracker.{Tracker}
 use Rattle.panel.specs.Tests as tests
-use Rattle.panel.specs.Tests.{if◌then◌else◌, ◌and◌}
+use Rattle.panel.specs.Tests.{when◌then◌else◌, ◌and◌}
 use Rattle.panel.specs.declared.points.Point.{Point}
 use Rattle.history.specs.Orders.{◌exactlyIf◌, Commute, gives, Rearranged, SameGestures}
 use Rattle.history.proofs.Held.{due, grab_now, long_now, held-is, grab-new, long-new, is_grab, is_long, long_sent, differ, New, still_alike}
@@ -39,7 +38,7 @@ given s = given_by s.out
 -- what the second of two ticks makes of it
 unfoldable second : Bool → Bool → Bool → Bool → Point → One → OneStep
 second grab long grab' long' start o =
-    if◌then◌else◌ grab (due false long' start (set_grabbed o)) (if◌then◌else◌ long (due grab' false start (set_long_sent o)) (due grab' long' start o))
+    when◌then◌else◌ grab (due false long' start (set_grabbed o)) (when◌then◌else◌ long (due grab' false start (set_long_sent o)) (due grab' long' start o))
 
 -- a Grab is given once, and so is a LongPress; neither is in the other's way
 module _ (o : One) where
@@ -55,7 +54,7 @@ module _ (start : Point) (o : One) where
   -- what is due then, by what was due before
   again : (grab long : One → Bool) → grab (set_grabbed o) ≡ false → long (set_grabbed o) ≡ long o → grab (set_long_sent o) ≡ grab o → long (set_long_sent o) ≡ false → (g l : Bool) →
       due (grab (due g l start o).one) (long (due g l start o).one) start (due g l start o).one ≡ second g l (grab o) (long o) start o
-  unfolding due second tests.if◌then◌else◌
+  unfolding due second tests.when◌then◌else◌
   again grab long gg lg gl ll true l = ap₂ (λ (x y : Bool). due x y start (set_grabbed o)) gg lg
   again grab long gg lg gl ll false true = ap₂ (λ (x y : Bool). due x y start (set_long_sent o)) gl ll
   again grab long gg lg gl ll false false = refl
@@ -66,7 +65,7 @@ module _ (start : Point) (o : One) where
       exactlyIf Rearranged (given (due g l start o)) (given (second g l g' l' start o)) (given (due g' l' start o)) (given (second g' l' g l start o))
 
   due-turned : (g l g' l' : Bool) → New o g l → New o g' l' → Turned g l g' l'
-  unfolding due second given_by set_grabbed set_long_sent tests.if◌then◌else◌
+  unfolding due second given_by set_grabbed set_long_sent tests.when◌then◌else◌
   due-turned true true true true n n' = (λ e. inl (refl, refl), λ r. refl)
   due-turned true false true false n n' = (λ e. inl (refl, refl), λ r. refl)
   -- the Grab comes first, and the LongPress is due at one of the two times alone

@@ -7,7 +7,7 @@ use Rattle.fingers.specs.declared.gestures.Gesture.{Gesture}
 use Rattle.fingers.specs.declared.gestures.Gesture.TheVariants.{Down, Tap, LongPress, Drag, Grab, Up, SwipeLeft, SwipeRight, SwipeUp, SwipeDown, Cancel, MultiSwipeDown, KeyDown, KeyUp, Move, Pinch, PinchEnd}
 use Rattle.gesture.specs.declared.answers.Given.{Given}
 use Rattle.gesture.specs.declared.answers.Given.TheVariants.{Nothing, Gave}
-use Rattle.panel.specs.Tests.{if◌then◌else◌, ◌and◌, ◌or◌, ◌=?◌}
+use Rattle.panel.specs.Tests.{when◌then◌else◌, ◌and◌, ◌or◌, ◌=?◌}
 
 -- whether a key is in a mask
 unfoldable pub has : ℕ → ℕ → Bool
@@ -38,8 +38,8 @@ changes told mask = map KeyUp (lacking told mask) ++ map KeyDown (lacking mask t
 
 -- the keys told, after one more gesture; only key changes tell of keys
 abbrev pub told_by : ℕ → Gesture → ℕ
-told_by mask (KeyDown k) = if has mask k then mask else mask + 2 ^ k
-told_by mask (KeyUp k) = if has mask k then mask - 2 ^ k else mask
+told_by mask (KeyDown k) = when has mask k then mask else mask + 2 ^ k
+told_by mask (KeyUp k) = when has mask k then mask - 2 ^ k else mask
 told_by mask (Down p) = mask
 told_by mask (Tap p) = mask
 told_by mask (LongPress p) = mask

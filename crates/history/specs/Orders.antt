@@ -7,7 +7,7 @@
 --
 -- And so for every pair of these calls and `set_grab_ms`. All of it is said of calls and of what they answer; a tracker that
 -- breaks the rule is left as it is by every call.
-use Rattle.std.specs.Prelude.{ℕ, min, ◌≡◌, Bool, false, not, List, [], ◌∷◌, ◌⊎◌}
+use Rattle.std.specs.Prelude.{ℕ, min, ◌≡◌, Bool, false, not, [], ◌∷◌, ◌⊎◌}
 use Rattle.fingers.specs.Thresholds.{grab_most}
 use Rattle.fingers.specs.declared.gestures.Gesture.TheVariants.{Grab}
 use Rattle.gesture.specs.Calls.{Call, report, tick, capture, capture_direct, raw_next, set_grab_ms, answer_of}
@@ -20,7 +20,7 @@ use Rattle.gesture.specs.declared.answers.Given.TheVariants.{Gave}
 use Rattle.gesture.specs.declared.lines.Log.{Log}
 use Rattle.gesture.specs.declared.lines.Log.TheVariants.{Silent}
 use Rattle.gesture.specs.declared.record.Tracker.{Tracker}
-use Rattle.panel.specs.Tests.{if◌then◌else◌, ◌and◌, ◌or◌}
+use Rattle.panel.specs.Tests.{when◌then◌else◌, ◌and◌, ◌or◌}
 use Rattle.panel.specs.declared.points.Point.{Point}
 use Rattle.history.specs.Runs.{said}
 
@@ -122,7 +122,7 @@ pub record Lines (t : Tracker) : Type 0 where
   pub capture-after-capture : logs (after t (capture ∷ [])) capture ≡ Silent
   pub capture-after-direct : logs (after t (capture_direct ∷ [])) capture ≡ Silent
   -- behind `raw_next` its line has that wish
-  pub capture-after-raw : (on : Bool) → logs (after t (raw_next on ∷ [])) capture ≡ (if takes t then capture_line on t.one.last else Silent)
+  pub capture-after-raw : (on : Bool) → logs (after t (raw_next on ∷ [])) capture ≡ (when takes t then capture_line on t.one.last else Silent)
   pub capture-after-grab : (ms : ℕ) → logs (after t (set_grab_ms ms ∷ [])) capture ≡ logs t capture
   pub capture-after-tick : (now : ℕ) → logs (after t (tick now ∷ [])) capture ≡ logs t capture
   -- a tick that answers alike logs alike

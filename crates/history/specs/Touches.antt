@@ -5,7 +5,7 @@
 use Rattle.std.specs.Prelude.{ℕ, ◌+◌, Bool, true, false}
 use Rattle.gesture.specs.Calls.{Call, report, tick, capture, capture_direct, raw_next, set_grab_ms}
 use Rattle.gesture.specs.declared.answers.Given.{Given}
-use Rattle.panel.specs.Tests.{if◌then◌else◌, ◌<?◌, ◌=?◌}
+use Rattle.panel.specs.Tests.{when◌then◌else◌, ◌<?◌, ◌=?◌}
 use Rattle.history.specs.Gestures.{tells_key}
 use Rattle.history.specs.Keys.{told}
 
@@ -52,13 +52,13 @@ with_several (on t) = record { several = true; one = false; excepted = t.excepte
 
 abbrev pub over : On → Before → ℕ → Before
 over off before now = before
-over (on t) before now = if t.several then many_until now else plain
+over (on t) before now = when t.several then many_until now else plain
 
 -- an unspent report of so many fingers
 unfoldable pub counted : Seen → ℕ → ℕ → Seen
 counted s n now =
-    if n =? 0 then record { keys = s.keys; touch = off; before = over s.touch s.before now }
-    else if n =? 1 then record { keys = s.keys; touch = on (with_one s.touch s.before now); before = s.before }
+    when n =? 0 then record { keys = s.keys; touch = off; before = over s.touch s.before now }
+    else when n =? 1 then record { keys = s.keys; touch = on (with_one s.touch s.before now); before = s.before }
     else record { keys = s.keys; touch = on (with_several s.touch); before = s.before }
 
 -- what is known after a call and its answer
@@ -66,7 +66,7 @@ abbrev pub key_told : Seen → Given → Seen
 key_told s g = record { keys = told s.keys g; touch = s.touch; before = s.before }
 
 abbrev pub watch : Seen → Call → Given → Seen
-watch s (report now ev) g = if tells_key g then key_told s g else counted s ev.points now
+watch s (report now ev) g = when tells_key g then key_told s g else counted s ev.points now
 watch s (tick now) g = key_told s g
 watch s capture g = s
 watch s capture_direct g = s
