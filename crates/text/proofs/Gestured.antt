@@ -15,7 +15,6 @@ use Rattle.text.specs.Gestures.{words_of, axis_word, gesture_text_of}
 use Rattle.text.specs.Sizes.{words_most}
 use Rattle.text.specs.Words.{ascii, decimal, spaced}
 use Rattle.text.specs.code.Written.{Written}
-use Rattle.text.specs.declared.gestures.GestureText.{GestureText}
 use Rattle.text.proofs.Writing.{words-then}
 
 abbrev xy : Point → List (List ℕ)

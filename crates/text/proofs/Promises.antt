@@ -19,7 +19,7 @@ use Rattle.gesture.specs.declared.record.Tracker.{Tracker}
 use Rattle.panel.proofs.Follow.{if-of, if-true, if-two}
 use Rattle.panel.proofs.Promises.{one_answer}
 use Rattle.panel.specs.Refusals.{Told}
-use Rattle.panel.specs.Tests.{if◌then◌else◌, ◌≤?◌}
+use Rattle.panel.specs.Tests.{when◌then◌else◌, ◌≤?◌}
 use Rattle.panel.specs.declared.refusals.Refusal.TheVariants.{Room}
 use Rattle.text.specs.Gestures.{gesture_text_of}
 use Rattle.text.specs.Played.{room_for, played_of, left_of, told_played}
@@ -35,12 +35,12 @@ tells n a = record { number = n; value = a }
 -- ROOM, 14, exactly where less room is lent than the trace may take. Where it is told nothing is altered; else the text
 -- stands at the start, and behind it what was there.
 module _ (bytes room : List ℕ) where
-  pub play-tells : told_played (played_of bytes room) ≡ if◌then◌else◌ (room_for bytes ≤? length room) (tells 0 (length (text_of bytes))) (tells 14 0)
+  pub play-tells : told_played (played_of bytes room) ≡ when◌then◌else◌ (room_for bytes ≤? length room) (tells 0 (length (text_of bytes))) (tells 14 0)
   unfolding played_of
   play-tells = if-of told_played _ _ _
 
   pub no_room : room_for bytes ≤? length room ≡ false → (told_played (played_of bytes room) ≡ tells 14 0) × (left_of bytes room ≡ room)
-  unfolding played_of left_of if◌then◌else◌
+  unfolding played_of left_of when◌then◌else◌
   no_room h = (simp h, simp h)
 
   pub no-other-byte : room_for bytes ≤? length room ≡ true → left_of bytes room ≡ text_of bytes ++ drop (length (text_of bytes)) room

@@ -34,7 +34,6 @@ use Rattle.numbers.specs.declared.reading.Cursor.TheVariants.{At, Stop}
 use Rattle.gesture.specs.declared.making.CallKind.{CallKind}
 use Rattle.trace.specs.declared.records.ReadAnswer.{ReadAnswer}
 use Rattle.trace.specs.declared.records.Taken.{Taken}
-use Rattle.trace.specs.declared.records.Taken.TheVariants as Taken
 
 -- What a trace prints on a tracker that is i records in.
 

@@ -9,7 +9,7 @@ use Rattle.gesture.specs.Trackers.{fresh_tracker}
 use Rattle.gesture.specs.declared.answers.Given.{Given}
 use Rattle.gesture.specs.declared.answers.Given.TheVariants.{Nothing, Gave}
 use Rattle.panel.specs.Refusals.{number_of}
-use Rattle.panel.specs.Tests.{if◌then◌else◌, ◌=?◌}
+use Rattle.panel.specs.Tests.{when◌then◌else◌, ◌=?◌}
 use Rattle.text.specs.Gestures.{words_of}
 use Rattle.text.specs.Words.{ascii, decimal, line}
 use Rattle.trace.specs.Traces.{Ending, ends, stops, Traced, trace_in}
@@ -24,7 +24,7 @@ unfoldable pub refused_line : ℕ → ℕ → List ℕ
 refused_line i number = line (decimal i) (ascii "refused" ∷ decimal number ∷ [])
 
 unfoldable pub answer_line : ℕ → ℕ → Given → List ℕ
-answer_line i refusal given = if refusal =? 0 then given_line i given else refused_line i refusal
+answer_line i refusal given = when refusal =? 0 then given_line i given else refused_line i refusal
 
 -- the lines of the calls made, of which the first is that of record i
 unfoldable pub lines_from : ℕ → List Made → List ℕ

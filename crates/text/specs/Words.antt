@@ -4,7 +4,7 @@
 use Rattle.std.specs.Prelude.{ℕ, zero, suc, ◌+◌, ◌/◌, ◌%◌, List, [], ◌∷◌, ◌++◌}
 use Prim.Native.Char.{code}
 use Prim.Native.String.{String, [] as nil, ◌∷◌ as ◌then◌}
-use Rattle.panel.specs.Tests.{if◌then◌else◌, ◌<?◌}
+use Rattle.panel.specs.Tests.{when◌then◌else◌, ◌<?◌}
 use Rattle.panel.specs.declared.axes.Axis.{Axis}
 use Rattle.panel.specs.declared.axes.Axis.TheVariants.{H, «V»}
 use Rattle.text.specs.Sizes.{most_digits}
@@ -32,7 +32,7 @@ digit0 = 48
 unfoldable pub digits_by : ℕ → ℕ → List ℕ
 digits_by zero v = []
 digits_by (suc most) v =
-    if v <? ten then (v + digit0) ∷ []
+    when v <? ten then (v + digit0) ∷ []
     else digits_by most (v / ten) ++ ((v % ten + digit0) ∷ [])
 
 unfoldable pub decimal : ℕ → List ℕ

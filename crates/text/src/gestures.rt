@@ -14,7 +14,7 @@ use panel::{Axis, Point};
 pub const WORDS_MOST: usize = 31;
 
 // The words of a gesture by value: the first n bytes, with a space before each word. Behind them are zeros.
-#[derive(Drop)]
+#[derive(Clone, Copy)]
 pub struct GestureText {
     pub bytes: [u8; WORDS_MOST],
     pub n: usize,

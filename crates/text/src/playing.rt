@@ -13,7 +13,7 @@ use panel::Refusal;
 use trace::Taken;
 
 // How long the text is, or that the room lent was too small.
-#[derive(Drop)]
+#[derive(Clone, Copy)]
 pub enum Played {
     Wrote(usize),
     Refused(Refusal),
