@@ -7,6 +7,7 @@ use crate::widths;
 use calmap::{ApplyAnswer, Cal, Q16};
 
 // The point (x, y) through the six steps: 0 and two numbers in sixteenths of a pixel, or 3 and zeros.
+#[tactic(auto, unfolding(crate::specs::Hosts::applied_by))]
 #[unsafe(no_mangle)]
 pub extern "C" fn touch_apply16(
     c0: i32,

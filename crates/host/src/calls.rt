@@ -66,6 +66,7 @@ pub extern "C" fn touch_set_grab_ms(
 }
 
 // The hold-to-grab time alone. The area is read and not written.
+#[tactic(auto, unfolding(crate::specs::Hosts::grab_hosted))]
 #[unsafe(no_mangle)]
 pub extern "C" fn touch_grab_ms(image: &[u8], out: &mut [u64; 1]) -> u32
     ensures { grab_told result out.new ≡ grab_hosted image.now }

@@ -1,5 +1,7 @@
 // What a host's C main loop calls: each function takes the area of bytes that holds the tracker, and numbers, and gives
 // a refusal number, or 0; the numbers of the answer go into an array that the caller lends. docs/IMAGE.md has both.
+#![tactic(auto)]
+
 mod calibration;
 mod calls;
 mod widths;
