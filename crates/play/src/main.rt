@@ -1,10 +1,14 @@
 // The trace program: plays the trace on standard input on a fresh tracker, and prints what comes of it. What it prints is
-// decided by text::play; here is only the reading and the writing. A program has no exit status of its own: what went
-// wrong is a line on standard error, by which the script `play` knows it.
-ghost use Rattle.std.specs.Prelude.{◌≡◌, ◌+◌, ◌≤◌, length};
-ghost use Rattle.io.specs.Counts.{IsPrefixLen};
+// decided by text::play; here is only the reading and the writing. What went wrong is a line on standard error, by which the
+// script `play` knows it, and the exit status 1.
+#![tactic(auto)]
 
-use libc::{STDERR_FILENO, STDIN_FILENO, STDOUT_FILENO};
+ghost use Rattle.std.specs.Prelude.{◌≡◌, ◌+◌, ◌≤◌, length, IfOk, vec_len};
+ghost use Rattle.std.specs.Counts.{IsPrefixLen};
+
+use std::alloc::{AllocError, Global};
+use std::io::{Read, Stdin};
+use std::process::ExitCode;
 use text::Played;
 
 // Room for a trace of 65,536 bytes and one more, by which a longer one is known.
@@ -15,40 +19,39 @@ fn trace_room() -> [u8; 65537]
 }
 
 // Room for all that such a trace prints: 37 bytes for each of its bytes and for the last line.
-fn text_room() -> [u8; 2424906]
-    ensures { 2424906 ≡ length result }
+fn text_room(alloc: Global) -> Result<Vec<u8>, AllocError>
+    ensures { IfOk result (λ room. 2424906 ≡ vec_len room) }
 {
-    [0; 2424906]
+    vec![in alloc; 0u8; 2424906]
 }
 
 // What was read: so many bytes, and whether a read failed.
-#[derive(Drop)]
+#[derive(Clone, Copy)]
 struct Input {
     n: usize,
     failed: bool,
 }
 
 // One read into the room from a place on. It fails, or the input ends, where no byte comes.
-fn read_on(room: &mut [u8], at: usize) -> Input
+fn read_on(from: &mut Stdin, room: &mut [u8], at: usize) -> Input
     requires { at ≤ length room.old }
     ensures { at + result.n ≤ length room.old }
 {
     let rest = &mut room[at..];
-    let got = libc::read(STDIN_FILENO, rest);
-    Input {
-        n: io::count(got, rest),
-        failed: got < 0,
+    match from.read(rest) {
+        Ok(n) => Input { n, failed: false },
+        Err(_) => Input { n: 0, failed: true },
     }
 }
 
-// Reads until the room is full, the input ends or a read fails. io::read_full does not tell the last two apart, and a
-// trace cut by a failed read would be played as a shorter one.
-fn read_all(room: &mut [u8]) -> Input
+// Reads until the room is full, the input ends or a read fails. The last two are told apart: a trace cut by a failed read
+// would be played as a shorter one.
+fn read_all(from: &mut Stdin, room: &mut [u8]) -> Input
     ensures { IsPrefixLen result.n room.new }
 {
     let mut n = 0;
     while n < room.len() {
-        let more = read_on(room, n);
+        let more = read_on(from, room, n);
         if more.n == 0 {
             return Input {
                 n: n,
@@ -63,23 +66,24 @@ fn read_all(room: &mut [u8]) -> Input
     }
 }
 
-fn main() {
+fn main(rt: HostRuntime) -> Result<ExitCode, AllocError> {
     let mut input = trace_room();
-    let read = read_all(&mut input);
+    let read = read_all(&mut rt.stdin(), &mut input);
     if read.failed {
-        io::write_all(STDERR_FILENO, b"play: standard input cannot be read\n");
-        return;
+        let _ = eprintln!(rt; "play: standard input cannot be read");
+        return Ok(ExitCode::FAILURE);
     }
     let n = read.n;
-    let mut out = text_room();
+    let mut out = text_room(rt.alloc())?;
     let played = text::play(&input[..n], &mut out);
     match played {
         Played::Wrote(k) => {
-            if io::write_all(STDOUT_FILENO, &out[..k]) {
-                return;
+            if rt.write_all(&out[..k]).is_ok() {
+                return Ok(ExitCode::SUCCESS);
             }
-            io::write_all(STDERR_FILENO, b"play: standard output cannot be written\n");
+            let _ = eprintln!(rt; "play: standard output cannot be written");
+            Ok(ExitCode::FAILURE)
         }
-        Played::Refused(_) => {}
+        Played::Refused(_) => Ok(ExitCode::SUCCESS),
     }
 }

@@ -1,0 +1,10 @@
+-- What is written fits its room.
+use Rattle.std.proofs.Common.{sym, arith}
+use Rattle.std.proofs.lemmas.List.{length-take-le}
+use Rattle.text.proofs.Promises.{lent}
+use Rattle.play.proofs.main.Goals as goal
+
+pub slice_bounds-write_all-end : goal.slice_bounds-write_all-end
+slice_bounds-write_all-end c =
+    let fits = lent _ _ _ _ _ c.in-Wrote.is (c.play-played.ensures.value, c.play-played.ensures.out_after) in
+    sym (length-take-le _ _ (omega (arith, fits)))
