@@ -14,7 +14,7 @@ use Rattle.calmap.specs.declared.units.Q16.{Q16}
 use Rattle.fingers.specs.declared.gestures.Gesture.{Gesture}
 use Rattle.fingers.specs.declared.gestures.Gesture.TheVariants.{Down, Tap, Drag, SwipeRight, KeyDown, KeyUp}
 use Rattle.gesture.specs.Calls.{Call, report, tick, answer_of}
-use Rattle.gesture.specs.Letters.{ascii-N}
+use Rattle.gesture.specs.Letters.{ascii_N}
 use Rattle.gesture.specs.Lines.{line}
 use Rattle.gesture.specs.Runs.{after}
 use Rattle.gesture.specs.Trackers.{fresh_tracker}
@@ -39,7 +39,7 @@ Holds (gives before c g) = (answer_of (after fresh_tracker before) c).gesture �
 Holds (silent before c) =
     ((answer_of (after fresh_tracker before) c).refusal ≡ 0) × ((answer_of (after fresh_tracker before) c).gesture ≡ Nothing)
 Holds (notes before c n p now) =
-    ((answer_of (after fresh_tracker before) c).gesture ≡ Nothing) × ((answer_of (after fresh_tracker before) c).log ≡ line ascii-N n p now)
+    ((answer_of (after fresh_tracker before) c).gesture ≡ Nothing) × ((answer_of (after fresh_tracker before) c).log ≡ line ascii_N n p now)
 Holds (applies c x y ax ay) = apply_of c (pos x) (pos y) ≡ Apply.Answered (spot (sixteenths ax) (sixteenths ay))
 Holds (checks c targets v) = check_of c targets ≡ Check.Answered v
 

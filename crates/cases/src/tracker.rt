@@ -3,51 +3,60 @@
 use crate::print;
 use gesture::{Answer, Gesture, Given, Tracker};
 use panel::{Event, Point};
+use std::io;
 
 fn at(x: u16, y: u16) -> Point {
     Point { x, y }
 }
 
 // Its words, a space before each.
-fn gesture(g: Gesture) {
+fn gesture(rt: &impl Print, g: Gesture) -> io::Result<()> {
     let t = text::gesture_text(g);
     let bytes = t.bytes;
-    print::word(&bytes[..t.n]);
+    print::word(rt, &bytes[..t.n])
 }
 
-fn given(g: Given) {
+fn given(rt: &impl Print, g: Given) -> io::Result<()> {
     match g {
-        Given::Nothing => print::name(print::NONE),
-        Given::Gave(g) => gesture(g),
+        Given::Nothing => print::name(rt, print::NONE),
+        Given::Gave(g) => gesture(rt, g),
     }
 }
 
 // What a call gave.
-fn gave(refusal: u8, g: Given) {
-    print::gives();
+fn gave(rt: &impl Print, refusal: u8, g: Given) -> io::Result<()> {
+    print::gives(rt)?;
     if refusal == 0 {
-        given(g);
+        given(rt, g)?;
     } else {
-        print::refused(refusal);
+        print::refused(rt, refusal)?;
     }
-    print::end();
+    print::end(rt)
 }
 
 // A call's tracker goes on.
-fn after(a: Answer) -> Tracker {
+fn after(rt: &impl Print, a: Answer) -> io::Result<Tracker> {
     let g = a.gesture;
-    gave(a.refusal, g);
+    gave(rt, a.refusal, g)?;
     let t = a.tracker;
-    t
+    Ok(t)
 }
 
-fn called(call: &[u8], now: u64) {
-    print::word(call);
-    print::number(now);
+fn called(rt: &impl Print, call: &[u8], now: u64) -> io::Result<()> {
+    print::word(rt, call)?;
+    print::number(rt, now)
 }
 
-fn report(t: Tracker, now: u64, count: u8, keys: u8, p: Point, q: Point) -> Tracker {
-    called(b"report", now);
+fn report(
+    rt: &impl Print,
+    t: Tracker,
+    now: u64,
+    count: u8,
+    keys: u8,
+    p: Point,
+    q: Point,
+) -> io::Result<Tracker> {
+    called(rt, b"report", now)?;
     let o = at(0, 0);
     let ev = Event {
         points: count,
@@ -55,114 +64,121 @@ fn report(t: Tracker, now: u64, count: u8, keys: u8, p: Point, q: Point) -> Trac
         pts: [p, q, o, o, o],
         keys,
     };
-    after(gesture::event(t, ev, now))
+    after(rt, gesture::event(t, ev, now))
 }
 
-fn none(t: Tracker, now: u64) -> Tracker {
-    report(t, now, 0, 0, at(0, 0), at(0, 0))
+fn none(rt: &impl Print, t: Tracker, now: u64) -> io::Result<Tracker> {
+    report(rt, t, now, 0, 0, at(0, 0), at(0, 0))
 }
 
-fn one(t: Tracker, now: u64, x: u16, y: u16) -> Tracker {
-    report(t, now, 1, 0, at(x, y), at(0, 0))
+fn one(rt: &impl Print, t: Tracker, now: u64, x: u16, y: u16) -> io::Result<Tracker> {
+    report(rt, t, now, 1, 0, at(x, y), at(0, 0))
 }
 
-fn two(t: Tracker, now: u64, p: Point, q: Point) -> Tracker {
-    report(t, now, 2, 0, p, q)
+fn two(rt: &impl Print, t: Tracker, now: u64, p: Point, q: Point) -> io::Result<Tracker> {
+    report(rt, t, now, 2, 0, p, q)
 }
 
-fn tick(t: Tracker, now: u64) -> Tracker {
-    called(b"tick", now);
-    after(gesture::tick(t, now))
+fn tick(rt: &impl Print, t: Tracker, now: u64) -> io::Result<Tracker> {
+    called(rt, b"tick", now)?;
+    after(rt, gesture::tick(t, now))
 }
 
-fn capture(t: Tracker) -> Tracker {
-    print::word(b"capture");
-    after(gesture::capture(t))
+fn capture(rt: &impl Print, t: Tracker) -> io::Result<Tracker> {
+    print::word(rt, b"capture")?;
+    after(rt, gesture::capture(t))
 }
 
-fn wish(t: Tracker) -> Tracker {
-    print::word(b"raw_next");
-    after(gesture::raw_next(t, true))
+fn wish(rt: &impl Print, t: Tracker) -> io::Result<Tracker> {
+    print::word(rt, b"raw_next")?;
+    after(rt, gesture::raw_next(t, true))
 }
 
-fn title(text: &[u8]) {
-    print::word(text);
-    print::end();
+fn title(rt: &impl Print, text: &[u8]) -> io::Result<()> {
+    print::word(rt, text)?;
+    print::end(rt)
 }
 
 // The calls of document 01's trace.
-pub(crate) fn trace() {
-    title(b"the trace of document 01");
-    let mut t = one(gesture::fresh(), 0, 100, 50);
-    t = one(t, 10, 115, 50);
-    t = one(t, 20, 116, 50);
-    t = two(t, 30, at(116, 50), at(176, 50));
-    t = tick(t, 1000);
-    t = none(t, 1010);
-    t = one(t, 1309, 100, 50);
-    t = none(t, 1310);
-    t = one(t, 1310, 100, 50);
-    none(t, 1400);
+pub(crate) fn trace(rt: &impl Print) -> io::Result<()> {
+    title(rt, b"the trace of document 01")?;
+    let mut t = one(rt, gesture::fresh(), 0, 100, 50)?;
+    t = one(rt, t, 10, 115, 50)?;
+    t = one(rt, t, 20, 116, 50)?;
+    t = two(rt, t, 30, at(116, 50), at(176, 50))?;
+    t = tick(rt, t, 1000)?;
+    t = none(rt, t, 1010)?;
+    t = one(rt, t, 1309, 100, 50)?;
+    t = none(rt, t, 1310)?;
+    t = one(rt, t, 1310, 100, 50)?;
+    none(rt, t, 1400)?;
+    Ok(())
 }
 
-fn swipe(up: u64) {
-    let mut t = one(gesture::fresh(), 0, 100, 50);
-    t = one(t, 10, 160, 50);
-    none(t, up);
+fn swipe(rt: &impl Print, up: u64) -> io::Result<()> {
+    let mut t = one(rt, gesture::fresh(), 0, 100, 50)?;
+    t = one(rt, t, 10, 160, 50)?;
+    none(rt, t, up)?;
+    Ok(())
 }
 
 // "Swipe at 800 ms, none at 801."
-pub(crate) fn swipes() {
-    title(b"a swipe's time");
-    swipe(800);
-    swipe(801);
+pub(crate) fn swipes(rt: &impl Print) -> io::Result<()> {
+    title(rt, b"a swipe's time")?;
+    swipe(rt, 800)?;
+    swipe(rt, 801)
 }
 
 // "Straight-line distance for the slop": (12, 12) is 17 away on the straight line, and no move.
-pub(crate) fn slop() {
-    title(b"no straight line for the slop");
-    let mut t = one(gesture::fresh(), 0, 100, 50);
-    t = one(t, 10, 112, 62);
-    tick(t, 700);
+pub(crate) fn slop(rt: &impl Print) -> io::Result<()> {
+    title(rt, b"no straight line for the slop")?;
+    let mut t = one(rt, gesture::fresh(), 0, 100, 50)?;
+    t = one(rt, t, 10, 112, 62)?;
+    tick(rt, t, 700)?;
+    Ok(())
 }
 
 // "A captured touch denied LongPress."
-pub(crate) fn captured() {
-    title(b"a captured touch has its LongPress");
-    let mut t = one(gesture::fresh(), 0, 100, 50);
-    t = capture(t);
-    t = tick(t, 700);
-    none(t, 800);
+pub(crate) fn captured(rt: &impl Print) -> io::Result<()> {
+    title(rt, b"a captured touch has its LongPress")?;
+    let mut t = one(rt, gesture::fresh(), 0, 100, 50)?;
+    t = capture(rt, t)?;
+    t = tick(rt, t, 700)?;
+    none(rt, t, 800)?;
+    Ok(())
 }
 
 // "Keeping the raw wish when nothing is touched."
-pub(crate) fn wished() {
-    title(b"the raw wish is used up where nothing is touched");
-    let mut t = wish(gesture::fresh());
-    t = capture(t);
-    t = one(t, 0, 100, 50);
-    t = capture(t);
-    t = one(t, 10, 120, 50);
-    title(b"and kept for the touch it is meant for");
-    t = none(t, 20);
-    t = one(t, 30, 100, 50);
-    t = wish(t);
-    t = capture(t);
-    one(t, 40, 101, 50);
+pub(crate) fn wished(rt: &impl Print) -> io::Result<()> {
+    title(rt, b"the raw wish is used up where nothing is touched")?;
+    let mut t = wish(rt, gesture::fresh())?;
+    t = capture(rt, t)?;
+    t = one(rt, t, 0, 100, 50)?;
+    t = capture(rt, t)?;
+    t = one(rt, t, 10, 120, 50)?;
+    title(rt, b"and kept for the touch it is meant for")?;
+    t = none(rt, t, 20)?;
+    t = one(rt, t, 30, 100, 50)?;
+    t = wish(rt, t)?;
+    t = capture(rt, t)?;
+    one(rt, t, 40, 101, 50)?;
+    Ok(())
 }
 
 // "Reading fingers of a spent report."
-pub(crate) fn spent() {
-    title(b"a spent report's fingers");
-    let mut t = one(gesture::fresh(), 0, 100, 50);
-    t = report(t, 10, 2, 1, at(100, 50), at(200, 50));
-    report(t, 20, 0, 1, at(0, 0), at(0, 0));
+pub(crate) fn spent(rt: &impl Print) -> io::Result<()> {
+    title(rt, b"a spent report's fingers")?;
+    let mut t = one(rt, gesture::fresh(), 0, 100, 50)?;
+    t = report(rt, t, 10, 2, 1, at(100, 50), at(200, 50))?;
+    report(rt, t, 20, 0, 1, at(0, 0), at(0, 0))?;
+    Ok(())
 }
 
 // A point off the panel, also where a key changed.
-pub(crate) fn refused() {
-    title(b"a point off the panel");
-    let mut t = one(gesture::fresh(), 0, 480, 0);
-    t = report(t, 10, 1, 1, at(0, 320), at(0, 0));
-    tick(t, 20);
+pub(crate) fn refused(rt: &impl Print) -> io::Result<()> {
+    title(rt, b"a point off the panel")?;
+    let mut t = one(rt, gesture::fresh(), 0, 480, 0)?;
+    t = report(rt, t, 10, 1, 1, at(0, 320), at(0, 0))?;
+    tick(rt, t, 20)?;
+    Ok(())
 }

@@ -4,6 +4,7 @@ use crate::print;
 use gesture::{Call, CallKind};
 use numbers::WriteAnswer;
 use panel::{Event, MAX_POINTS, Point};
+use std::io;
 
 fn tick() -> Call {
     Call {
@@ -17,50 +18,50 @@ fn tick() -> Call {
     }
 }
 
-fn answer(a: WriteAnswer) {
-    print::gives();
+fn answer(rt: &impl Print, a: WriteAnswer) -> io::Result<()> {
+    print::gives(rt)?;
     match a {
-        WriteAnswer::Answered(to) => print::number(to as u64),
-        WriteAnswer::Refused(why) => print::refusal(why),
+        WriteAnswer::Answered(to) => print::number(rt, to as u64)?,
+        WriteAnswer::Refused(why) => print::refusal(rt, why)?,
     }
-    print::word(b",");
+    print::word(rt, b",")
 }
 
-fn short() {
+fn short(rt: &impl Print) -> io::Result<()> {
     let mut room = [7u8; 2];
     let a = trace::put_record(&mut room, 0, tick());
-    print::word(b"put_record tick 300, 2 bytes");
-    answer(a);
-    print::byte(room[0]);
-    print::byte(room[1]);
-    print::end();
+    print::word(rt, b"put_record tick 300, 2 bytes")?;
+    answer(rt, a)?;
+    print::byte(rt, room[0])?;
+    print::byte(rt, room[1])?;
+    print::end(rt)
 }
 
-fn ample() {
+fn ample(rt: &impl Print) -> io::Result<()> {
     let mut room = [7u8; 4];
     let a = trace::put_record(&mut room, 0, tick());
-    print::word(b"put_record tick 300, 4 bytes");
-    answer(a);
-    print::byte(room[0]);
-    print::byte(room[1]);
-    print::byte(room[2]);
-    print::byte(room[3]);
-    print::end();
+    print::word(rt, b"put_record tick 300, 4 bytes")?;
+    answer(rt, a)?;
+    print::byte(rt, room[0])?;
+    print::byte(rt, room[1])?;
+    print::byte(rt, room[2])?;
+    print::byte(rt, room[3])?;
+    print::end(rt)
 }
 
 // The version behind the end of the room.
-fn behind() {
+fn behind(rt: &impl Print) -> io::Result<()> {
     let mut room = [7u8; 2];
     let a = trace::put_head(&mut room, 2);
-    print::word(b"put_head at 2, 2 bytes");
-    answer(a);
-    print::byte(room[0]);
-    print::byte(room[1]);
-    print::end();
+    print::word(rt, b"put_head at 2, 2 bytes")?;
+    answer(rt, a)?;
+    print::byte(rt, room[0])?;
+    print::byte(rt, room[1])?;
+    print::end(rt)
 }
 
-pub(crate) fn rooms() {
-    short();
-    ample();
-    behind();
+pub(crate) fn rooms(rt: &impl Print) -> io::Result<()> {
+    short(rt)?;
+    ample(rt)?;
+    behind(rt)
 }
