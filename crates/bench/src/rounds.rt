@@ -8,14 +8,14 @@ use trace::Taken;
 
 pub(crate) const PLACES: usize = 16;
 
-#[derive(Drop)]
+#[derive(Clone, Copy)]
 pub(crate) struct Calls {
     pub events: [Event; PLACES],
     pub times: [u64; PLACES],
     pub n: usize,
 }
 
-#[derive(Drop)]
+#[derive(Clone, Copy)]
 struct One {
     time: u64,
     next: usize,

@@ -6,7 +6,7 @@ use numbers::Cursor;
 // The most numbers that a row takes: three lists of nine points, and some to spare.
 pub(crate) const PLACES: usize = 64;
 
-#[derive(Drop)]
+#[derive(Clone, Copy)]
 pub(crate) struct Numbers {
     pub v: [u64; PLACES],
     pub n: usize,
