@@ -9,7 +9,7 @@ use numbers::Cursor;
 // What is kept of an area: more than an image has, so that a longer one is refused as it would be whole.
 const KEPT: usize = 256;
 
-#[derive(Drop)]
+#[derive(Clone, Copy)]
 pub(crate) struct Area {
     pub decoded: DecodeAnswer,
     pub to: Cursor,

@@ -18,7 +18,7 @@ pub(crate) const MOST_32: u64 = 4_294_967_295;
 pub(crate) const NUMBERS: usize = 16;
 
 // The kind of a call, its numbers, and where they end.
-#[derive(Drop)]
+#[derive(Clone, Copy)]
 pub(crate) struct Args {
     pub kind: u64,
     pub v: [u64; NUMBERS],

@@ -12,7 +12,7 @@ use panel::{Point, Refusal};
 use touchcal::{CalAnswer, CoefPlace, Fit, FitAnswer, Pending, PutAnswer, Q16Answer, TakeAnswer};
 
 // What a call on the pending record is answered with, and what is pending now.
-#[derive(Drop)]
+#[derive(Clone, Copy)]
 pub(crate) struct Kept {
     pub reply: Reply,
     pub pending: Pending,

@@ -1,6 +1,9 @@
 // What is printed, gathered in one buffer. A line is a row of pieces, made by value and written in one place:
 // a function that hands the buffer on is dear to prove, one that makes a piece is not. A gesture alone comes as its
 // bytes. The buffer is written out before it could be full (see main).
+ghost use Rattle.std.specs.Prelude.{◌≡◌, take, decimal};
+ghost use Rattle.std.specs.Counts.{IsPrefixLen};
+
 use numbers::Cursor;
 use panel::{Point, Refusal};
 
@@ -27,14 +30,14 @@ const BYTE: u8 = 4;
 const FIRST: u8 = 5;
 
 // A word goes by its place in the list of words, a number below zero by its magnitude.
-#[derive(Drop)]
+#[derive(Clone, Copy)]
 pub(crate) struct Piece {
     how: u8,
     v: u64,
 }
 
 // What a call is answered with: its refusal, and the pieces behind it.
-#[derive(Drop)]
+#[derive(Clone, Copy)]
 pub(crate) struct Reply {
     pub refusal: u8,
     pub said: [Piece; PIECES],
@@ -238,9 +241,23 @@ pub(crate) fn text(out: &mut [u8], at: usize, w: &[u8]) -> usize {
     to
 }
 
+// A number's decimal digits, the highest first, at the start of the room: how many there are.
+fn decimal_digits(n: u64, room: &mut [u8; 20]) -> usize
+    ensures in_bounds { IsPrefixLen result room.new }
+    ensures digits { take result room.new ≡ decimal n }
+{
+    if n < 10 {
+        room[0] = b'0' + n as u8;
+        return 1;
+    }
+    let k = decimal_digits(n / 10, room);
+    room[k] = b'0' + (n % 10) as u8;
+    k + 1
+}
+
 fn digits(out: &mut [u8], at: usize, n: u64) -> usize {
     let mut t = [0u8; 20];
-    let k = io::decimal(n, &mut t);
+    let k = decimal_digits(n, &mut t);
     text(out, at, &t[..k])
 }
 

@@ -10,14 +10,14 @@ use panel::Point;
 // The taps that a call can use, and a place for those that it cannot: the other list may be the shorter one.
 const PLACES: usize = 65;
 
-#[derive(Drop)]
+#[derive(Clone, Copy)]
 struct Taps {
     list: [Tap; PLACES],
     n: usize,
     to: Cursor,
 }
 
-#[derive(Drop)]
+#[derive(Clone, Copy)]
 pub(crate) struct Targets {
     pub list: [Point; MAX_TAPS],
     pub n: usize,
@@ -25,14 +25,14 @@ pub(crate) struct Targets {
 }
 
 // Raw taps beside their targets, as many as the shorter list has.
-#[derive(Drop)]
+#[derive(Clone, Copy)]
 pub(crate) struct Beside {
     pub list: [Aim; MAX_TAPS],
     pub n: usize,
     pub to: Cursor,
 }
 
-#[derive(Drop)]
+#[derive(Clone, Copy)]
 struct Coordinates {
     x: u64,
     y: u64,

@@ -6,7 +6,7 @@ use gesture::Answer;
 use numbers::Cursor;
 
 // What such a call is answered with, and where it ends.
-#[derive(Drop)]
+#[derive(Clone, Copy)]
 pub(crate) struct Replied {
     pub reply: Reply,
     pub to: Cursor,
