@@ -31,11 +31,11 @@ fn log_of(out: [u64; image::ANSWER_NUMBERS]) -> Log {\
         return Log::Silent;\
     }\
     Log::Logged(Line {\
-        letter: out[6] as u8,\
-        argument: out[7] as u8,\
+        letter: (out[6] % 256) as u8,\
+        argument: (out[7] % 256) as u8,\
         p: Point {\
-            x: out[8] as u16,\
-            y: out[9] as u16,\
+            x: (out[8] % 65536) as u16,\
+            y: (out[9] % 65536) as u16,\
         },\
         time: out[10],\
     })\

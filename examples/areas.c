@@ -38,13 +38,13 @@ static int is_there(const uint8_t *area, enum part part)
 {
     switch (part) {
     case DOWN:
-        return area[AT_touchNumber] == 1;
+        return area[AT_touch_number] == 1;
     case MULTI:
-        return area[AT_touchNumber] == 2;
+        return area[AT_touch_number] == 2;
     case PAIR:
-        return area[AT_touchNumber] == 2 && area[AT_pairNumber] == 1;
+        return area[AT_touch_number] == 2 && area[AT_pair_number] == 1;
     case MULTI_END:
-        return area[AT_endNumber] == 1;
+        return area[AT_end_number] == 1;
     default:
         return 1;
     }
@@ -83,7 +83,7 @@ static int sample_count;
 /* Of one kind are those in which these bytes are the same. */
 static int same_kind(const uint8_t *a, const uint8_t *b)
 {
-    static const int places[] = {AT_touchNumber, AT_pairNumber, AT_pair_state, AT_app_captured, AT_app_raw, AT_endNumber};
+    static const int places[] = {AT_touch_number, AT_pair_number, AT_pair_state, AT_app_captured, AT_app_raw, AT_end_number};
     for (unsigned i = 0; i < sizeof places / sizeof places[0]; i++)
         if (a[places[i]] != b[places[i]])
             return 0;

@@ -44,7 +44,7 @@ static int same_gesture(const struct told *a, const struct told *b)
 /* "unless an uncaptured touch is active and the raw wish is on" */
 static int wish_meets_touch(const uint8_t *image)
 {
-    return image[AT_touchNumber] && !image[AT_app_captured] && image[AT_settings_raw_next];
+    return image[AT_touch_number] && !image[AT_app_captured] && image[AT_settings_raw_next];
 }
 
 static unsigned cut(unsigned ms)

@@ -8,7 +8,7 @@
  * Every function returns 0 if it answered, else the number of its refusal. A refused call has set all
  * numbers of `out` to zero and has left every byte of the area as it was.
  *
- * Link with the archive that `rt staticlib host` writes. It is for x86-64. examples/host.c is a main loop.
+ * Link with crates/host/out/libhost.a, which `rt lib` writes in crates/host. It is for x86-64. examples/host.c is a main loop.
  */
 #ifndef MOSTAVELURG_TOUCH_H
 #define MOSTAVELURG_TOUCH_H
