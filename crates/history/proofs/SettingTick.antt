@@ -23,13 +23,13 @@ use Rattle.gesture.specs.declared.answers.Given.TheVariants.{Gave}
 use Rattle.gesture.specs.declared.record.Tracker.{Tracker}
 use Rattle.panel.proofs.Follow.{if-all}
 use Rattle.panel.specs.declared.points.Point.{Point}
-use Rattle.history.specs.Orders.{◌exactlyIf◌, Commute, AnswersAlike, CaptureTick, NoGrab, Setting}
+use Rattle.history.specs.Orders.{◌exactly_if◌, Commute, AnswersAlike, CaptureTick, NoGrab, Setting}
 use Rattle.history.specs.Runs.{Said}
 use Rattle.history.proofs.Held.{is_grab, differ, Alike, GivesNoGrab, still_alike, still-same, direct-none, direct-same}
 use Rattle.history.proofs.Parts.{given_of, refusal_of, behind, two-leave, settings_by, app_by, with, left, setting-leaves, app-unmarked, out_by, keys_by, one_by, marked, key_of, given_in, one_in, left_in, tick-leaves, tick_gives, tick-answered}
 
 -- a key that is told comes first, whatever the finger does
-key-alike : (k : KeyStep) (o : One) (r s : OneStep) → Alike r s → (one_by k o r ≡ one_by k o s) exactlyIf (given_by (out_by k r) ≡ given_by (out_by k s))
+key-alike : (k : KeyStep) (o : One) (r s : OneStep) → Alike r s → (one_by k o r ≡ one_by k o s) exactly_if (given_by (out_by k r) ≡ given_by (out_by k s))
 key-alike (Flipped g told) o r s a = (λ e. refl, λ e. refl)
 key-alike Same o r s a = (λ e. ap (λ (u : OneStep). given_by u.out) (a.0 e), λ e. ap (λ (u : OneStep). u.one) (a.1 e))
 
@@ -60,7 +60,7 @@ module _ (t : Tracker) (h : state_rule t ≡ true) where
     tick-behind : after t (c ∷ tick now ∷ []) ≡ left_in (left t c) now
     tick-behind = two-leave c (tick now) (λ (u : Tracker). left u c) (λ (u : Tracker). left_in u now) (setting-leaves c x) (tick-leaves now) t h
 
-    by-finger : Commute t c (tick now) exactlyIf (one_in (left t c) now ≡ one_in t now)
+    by-finger : Commute t c (tick now) exactly_if (one_in (left t c) now ≡ one_in t now)
     unfolding left with marked whole
     by-finger = (
       λ same. ap (λ (u : Tracker). u.one) (sym tick-behind ∙ same ∙ tick-before),
@@ -73,17 +73,17 @@ module _ (t : Tracker) (h : state_rule t ≡ true) where
     then-answered : refusal_of (answer_of (after t (c ∷ [])) (tick now)) ≡ 0
     then-answered = behind refusal_of c (tick now) (λ (u : Tracker). left u c) (λ (u : Tracker). 0) (setting-leaves c x) (tick-answered now) t h
 
-    pub by-given : AnswersAlike t c (tick now) exactlyIf (given_in (left t c) now ≡ given_in t now)
+    pub by-given : AnswersAlike t c (tick now) exactly_if (given_in (left t c) now ≡ given_in t now)
     by-given = (
       λ same. sym then-gives ∙ ap (λ (s : Said). s.given) same ∙ tick_gives now t h,
       λ e. ap₂ (said_of now) (then-answered ∙ sym (tick-answered now t h)) (then-gives ∙ e ∙ sym (tick_gives now t h)),
     )
 
-    finger-tells : (one_in (left t c) now ≡ one_in t now) exactlyIf (given_in (left t c) now ≡ given_in t now)
+    finger-tells : (one_in (left t c) now ≡ one_in t now) exactly_if (given_in (left t c) now ≡ given_in t now)
     unfolding left with whole
     finger-tells = key-alike (key_of t) t.one _ _ (still_alike t.touch t.one (app_by c t) t.app (settings_by c t.settings) t.settings now now)
 
-    pub tick-law : Commute t c (tick now) exactlyIf AnswersAlike t c (tick now)
+    pub tick-law : Commute t c (tick now) exactly_if AnswersAlike t c (tick now)
     tick-law = (λ same. by-given.1 (finger-tells.0 (by-finger.0 same)), λ alike. by-finger.1 (finger-tells.1 (by-given.0 alike)))
 
     -- a call that leaves the grab time, and direct as it is
@@ -104,7 +104,7 @@ module _ (t : Tracker) (h : state_rule t ≡ true) where
   unfolding set_raw
   raw-tick-law on now = unseen (raw_next on) tt now refl refl
 
-  pub direct-tick-law : (now : ℕ) → Commute t capture_direct (tick now) exactlyIf NoGrab t now
+  pub direct-tick-law : (now : ℕ) → Commute t capture_direct (tick now) exactly_if NoGrab t now
   unfolding left with whole set_raw
   direct-tick-law now =
       let given = tick_gives now t h in

@@ -18,7 +18,7 @@ use Rattle.gesture.specs.Trackers.{whole, is_active}
 use Rattle.gesture.specs.declared.record.Tracker.{Tracker}
 use Rattle.panel.specs.Tests as tests
 use Rattle.panel.specs.Tests.{◌and◌, ◌or◌}
-use Rattle.history.specs.Orders.{◌exactlyIf◌, Commute, LaterStands, wish_meets_touch, CaptureTwice, LaterWish, CaptureDirect, Setting}
+use Rattle.history.specs.Orders.{◌exactly_if◌, Commute, LaterStands, wish_meets_touch, CaptureTwice, LaterWish, CaptureDirect, Setting}
 use Rattle.history.proofs.Held.{differ}
 use Rattle.history.proofs.Parts.{two-leave, settings_by, app_by, with, left, setting-leaves}
 
@@ -47,7 +47,7 @@ module _ (t : Tracker) where
 
   -- the first of the two makes the touch raw or not
   wish-once : (active captured wish : Bool) → is_active t.touch ≡ active → t.app.captured ≡ captured → t.settings.raw_next ≡ wish → raw_rule t.app ≡ true →
-      (app_after capture capture_direct t ≡ app_after capture_direct capture t) exactlyIf (wish_meets_touch t ≡ false)
+      (app_after capture capture_direct t ≡ app_after capture_direct capture t) exactly_if (wish_meets_touch t ≡ false)
   unfolding wish_meets_touch left with whole takes tests.when◌then◌else◌ tests.◌and◌ set_captured set_direct set_raw raw_rule
   wish-once false c w on is wished rule = rw on (λ same. refl, λ none. refl)
   wish-once true true w on is wished rule = rw (on, is) (λ same. refl, λ none. refl)
@@ -59,7 +59,7 @@ module _ (t : Tracker) where
 
   -- a wish that is withdrawn behind the capture, and before it
   wish-late : (active captured wish : Bool) → is_active t.touch ≡ active → t.app.captured ≡ captured → t.settings.raw_next ≡ wish →
-      (app_after capture (raw_next false) t ≡ app_after (raw_next false) capture t) exactlyIf (wish_meets_touch t ≡ false)
+      (app_after capture (raw_next false) t ≡ app_after (raw_next false) capture t) exactly_if (wish_meets_touch t ≡ false)
   unfolding wish_meets_touch left with whole takes tests.when◌then◌else◌ tests.◌and◌ set_captured set_raw
   wish-late false c w on is wished = rw on (λ same. refl, λ none. refl)
   wish-late true true w on is wished = rw (on, is) (λ same. refl, λ none. refl)
@@ -75,7 +75,7 @@ module _ (t : Tracker) (h : state_rule t ≡ true) where
   in-turn : (c d : Call) → Setting c → Setting d → after t (c ∷ d ∷ []) ≡ left (left t c) d
   in-turn c d x y = two-leave c d (λ (u : Tracker). left u c) (λ (u : Tracker). left u d) (setting-leaves c x) (setting-leaves d y) t h
 
-  both-orders : (c d : Call) → Setting c → Setting d → (left (left t c) d ≡ left (left t d) c) exactlyIf Commute t c d
+  both-orders : (c d : Call) → Setting c → Setting d → (left (left t c) d ≡ left (left t d) c) exactly_if Commute t c d
   both-orders c d x y = (λ e. in-turn c d x y ∙ e ∙ sym (in-turn d c y x), λ e. sym (in-turn c d x y) ∙ e ∙ in-turn d c y x)
 
   stands : (c d : Call) → Setting c → Setting d → left (left t c) d ≡ left t d → LaterStands t c d
@@ -84,7 +84,7 @@ module _ (t : Tracker) (h : state_rule t ≡ true) where
 
   -- where the settings that two leave are the same, all hangs on what the app made of the touch
   by-app : (c d : Call) → Setting c → Setting d → (B : Type 0) → settings_by d (settings_by c t.settings) ≡ settings_by c (settings_by d t.settings) →
-      (app_after c d t ≡ app_after d c t) exactlyIf B → Commute t c d exactlyIf B
+      (app_after c d t ≡ app_after d c t) exactly_if B → Commute t c d exactly_if B
   unfolding left with whole
   by-app c d x y B s e = (
     λ same. e.0 (ap (λ (u : Tracker). u.app) ((both-orders c d x y).1 same)),
@@ -96,12 +96,12 @@ module _ (t : Tracker) (h : state_rule t ≡ true) where
   capture-direct-law =
       by-app capture capture_direct tt tt _ refl (wish-once t (is_active t.touch) t.app.captured t.settings.raw_next refl refl refl (raw-captured t h))
 
-  pub capture-raw-law : (on : Bool) → Commute t capture (raw_next on) exactlyIf (◌or◌ on (wish_meets_touch t) ≡ false)
+  pub capture-raw-law : (on : Bool) → Commute t capture (raw_next on) exactly_if (◌or◌ on (wish_meets_touch t) ≡ false)
   unfolding tests.◌or◌ left with whole set_raw
   capture-raw-law true = (λ same. absurd (true≢false (ap wish_of ((both-orders capture (raw_next true) tt tt).1 same))), λ none. absurd (true≢false none))
   capture-raw-law false = by-app capture (raw_next false) tt tt _ refl (wish-late t (is_active t.touch) t.app.captured t.settings.raw_next refl refl refl)
 
-  pub direct-raw-law : (on : Bool) → Commute t capture_direct (raw_next on) exactlyIf (on ≡ false)
+  pub direct-raw-law : (on : Bool) → Commute t capture_direct (raw_next on) exactly_if (on ≡ false)
   unfolding left with whole set_raw
   direct-raw-law true = (λ same. ap wish_of ((both-orders capture_direct (raw_next true) tt tt).1 same), λ none. absurd (true≢false none))
   direct-raw-law false = by-app capture_direct (raw_next false) tt tt _ refl (λ same. refl, λ none. refl)
@@ -120,7 +120,7 @@ module _ (t : Tracker) (h : state_rule t ≡ true) where
   unfolding left with whole set_raw
   raw-later-law a b = stands (raw_next a) (raw_next b) tt tt refl
 
-  pub raw-raw-law : (a b : Bool) → Commute t (raw_next a) (raw_next b) exactlyIf (a ≡ b)
+  pub raw-raw-law : (a b : Bool) → Commute t (raw_next a) (raw_next b) exactly_if (a ≡ b)
   unfolding left with whole set_raw
   raw-raw-law a b = (
     λ same. sym (ap wish_of ((both-orders (raw_next a) (raw_next b) tt tt).1 same)),
@@ -131,7 +131,7 @@ module _ (t : Tracker) (h : state_rule t ≡ true) where
   unfolding left with whole set_grab
   grab-later-law a b = stands (set_grab_ms a) (set_grab_ms b) tt tt refl
 
-  pub grab-grab-law : (a b : ℕ) → Commute t (set_grab_ms a) (set_grab_ms b) exactlyIf (min a grab_most ≡ min b grab_most)
+  pub grab-grab-law : (a b : ℕ) → Commute t (set_grab_ms a) (set_grab_ms b) exactly_if (min a grab_most ≡ min b grab_most)
   unfolding left with whole set_grab
   grab-grab-law a b = (
     λ same. sym (ap (λ (u : Tracker). u.settings.grab_ms) ((both-orders (set_grab_ms a) (set_grab_ms b) tt tt).1 same)),

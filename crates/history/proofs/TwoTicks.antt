@@ -25,7 +25,7 @@ use Rattle.gesture.specs.declared.record.Tracker.{Tracker}
 use Rattle.panel.specs.Tests as tests
 use Rattle.panel.specs.Tests.{when◌then◌else◌, ◌and◌}
 use Rattle.panel.specs.declared.points.Point.{Point}
-use Rattle.history.specs.Orders.{◌exactlyIf◌, Commute, gives, Rearranged, SameGestures}
+use Rattle.history.specs.Orders.{◌exactly_if◌, Commute, gives, Rearranged, SameGestures}
 use Rattle.history.proofs.Held.{due, grab_now, long_now, held-is, grab-new, long-new, is_grab, is_long, long_sent, differ, New, still_alike}
 use Rattle.history.proofs.Moves.{never-more}
 use Rattle.history.proofs.Parts.{given_of, behind, two-leave, still_by, out_by, keys_by, one_by, marked, key_of, still_of, given_in, left_in, tick-leaves, tick_gives}
@@ -62,7 +62,7 @@ module _ (start : Point) (o : One) where
   abbrev Turned : Bool → Bool → Bool → Bool → Type 0
   Turned g l g' l' =
       ((second g l g' l' start o).one ≡ (second g' l' g l start o).one)
-      exactlyIf Rearranged (given (due g l start o)) (given (second g l g' l' start o)) (given (due g' l' start o)) (given (second g' l' g l start o))
+      exactly_if Rearranged (given (due g l start o)) (given (second g l g' l' start o)) (given (due g' l' start o)) (given (second g' l' g l start o))
 
   due-turned : (g l g' l' : Bool) → New o g l → New o g' l' → Turned g l g' l'
   unfolding due second given_by set_grabbed set_long_sent tests.when◌then◌else◌
@@ -106,7 +106,7 @@ module _ (app : App) (set : Settings) where
       ∙ again start o (λ (u : One). grab_now u app set since b) (λ (u : One). long_now u app set since b) (grab-once o hold (b - since)) refl refl (long-once o set.grab_ms (b - since)) (grab_now o app set since a) (long_now o app set since a)
 
   abbrev Twice : (r r' s s' : OneStep) → Type 0
-  Twice r r' s s' = (r'.one ≡ s'.one) exactlyIf Rearranged (given r) (given r') (given s) (given s')
+  Twice r r' s s' = (r'.one ≡ s'.one) exactly_if Rearranged (given r) (given r') (given s) (given s')
 
   still-turned : (x : Touch) (o : One) (a b : ℕ) → Twice (still x o a) (twice x o a b) (still x o b) (twice x o b a)
   unfolding still_by
@@ -132,7 +132,7 @@ module _ (t : Tracker) (a b : ℕ) where
 
   keys-turned : (k k' : KeyStep) → (k ≡ Same → k' ≡ Same) →
       (one_by k' (first_one k a) (later k a b) ≡ one_by k' (first_one k b) (later k b a))
-      exactlyIf Rearranged (given_by (out_by k (still_of t a))) (given_by (out_by k' (later k a b))) (given_by (out_by k (still_of t b))) (given_by (out_by k' (later k b a)))
+      exactly_if Rearranged (given_by (out_by k (still_of t a))) (given_by (out_by k' (later k a b))) (given_by (out_by k (still_of t b))) (given_by (out_by k' (later k b a)))
   unfolding is_same
   keys-turned Same Same s = still-turned t.app t.settings t.touch t.one a b
   keys-turned Same (Flipped g told) s = differ is_same refl refl (sym (s refl))
@@ -152,7 +152,7 @@ module _ (t : Tracker) (h : state_rule t ≡ true) where
   then-gives : (a b : ℕ) → gives (after t (tick a ∷ [])) b ≡ given_in (left_in t a) b
   then-gives a b = behind given_of (tick a) (tick b) (λ (u : Tracker). left_in u a) (λ (u : Tracker). given_in u b) (tick-leaves a) (tick_gives b) t h
 
-  pub tick-tick-law : (a b : ℕ) → Commute t (tick a) (tick b) exactlyIf SameGestures t a b
+  pub tick-tick-law : (a b : ℕ) → Commute t (tick a) (tick b) exactly_if SameGestures t a b
   unfolding marked whole
   tick-tick-law a b =
       let k' = key_step (keys_by (key_of t) t.keys).told (keys_by (key_of t) t.keys).wanted in

@@ -24,9 +24,9 @@ use Rattle.panel.specs.Tests.{when◌then◌else◌, ◌and◌, ◌or◌}
 use Rattle.panel.specs.declared.points.Point.{Point}
 use Rattle.history.specs.Runs.{said}
 
-infix 5 ◌exactlyIf◌
-abbrev pub ◌exactlyIf◌ : Type 0 → Type 0 → Type 0
-◌exactlyIf◌ A B = (A → B) × (B → A)
+infix 5 ◌exactly_if◌
+abbrev pub ◌exactly_if◌ : Type 0 → Type 0 → Type 0
+◌exactly_if◌ A B = (A → B) × (B → A)
 
 -- in either order the two leave the same tracker
 abbrev pub Commute : Tracker → Call → Call → Type 0
@@ -60,7 +60,7 @@ CaptureTick t now = Commute t capture (tick now) × AnswersAlike t capture (tick
 
 -- "`capture` with `capture_direct`, in either order, leave the same tracker unless .."; and there they do differ
 abbrev pub CaptureDirect : Tracker → Type 0
-CaptureDirect t = Commute t capture capture_direct exactlyIf (wish_meets_touch t ≡ false)
+CaptureDirect t = Commute t capture capture_direct exactly_if (wish_meets_touch t ≡ false)
 
 -- What the other pairs hang on.
 
@@ -92,22 +92,22 @@ Setting (set_grab_ms ms) = Unit {0}
 pub record Orders (t : Tracker) : Type 0 where
   pub capture-twice : CaptureTwice t
   pub capture-direct : CaptureDirect t
-  pub capture-raw : (on : Bool) → Commute t capture (raw_next on) exactlyIf ((on or wish_meets_touch t) ≡ false)
+  pub capture-raw : (on : Bool) → Commute t capture (raw_next on) exactly_if ((on or wish_meets_touch t) ≡ false)
   pub capture-grab : (ms : ℕ) → Commute t capture (set_grab_ms ms)
   pub capture-tick : (now : ℕ) → CaptureTick t now
   pub direct-twice : LaterStands t capture_direct capture_direct
-  pub direct-raw : (on : Bool) → Commute t capture_direct (raw_next on) exactlyIf (on ≡ false)
+  pub direct-raw : (on : Bool) → Commute t capture_direct (raw_next on) exactly_if (on ≡ false)
   pub direct-grab : (ms : ℕ) → Commute t capture_direct (set_grab_ms ms)
-  pub direct-tick : (now : ℕ) → Commute t capture_direct (tick now) exactlyIf NoGrab t now
+  pub direct-tick : (now : ℕ) → Commute t capture_direct (tick now) exactly_if NoGrab t now
   pub raw-later : (a b : Bool) → LaterWish t a b
-  pub raw-raw : (a b : Bool) → Commute t (raw_next a) (raw_next b) exactlyIf (a ≡ b)
+  pub raw-raw : (a b : Bool) → Commute t (raw_next a) (raw_next b) exactly_if (a ≡ b)
   pub raw-grab : (on : Bool) (ms : ℕ) → Commute t (raw_next on) (set_grab_ms ms)
   pub raw-tick : (on : Bool) (now : ℕ) → Commute t (raw_next on) (tick now) × AnswersAlike t (raw_next on) (tick now)
   pub grab-later : (a b : ℕ) → LaterStands t (set_grab_ms a) (set_grab_ms b)
-  pub grab-grab : (a b : ℕ) → Commute t (set_grab_ms a) (set_grab_ms b) exactlyIf (min a grab_most ≡ min b grab_most)
+  pub grab-grab : (a b : ℕ) → Commute t (set_grab_ms a) (set_grab_ms b) exactly_if (min a grab_most ≡ min b grab_most)
   -- any of the four and a tick, and so `set_grab_ms` and a tick
-  pub setting-tick : (c : Call) → Setting c → (now : ℕ) → Commute t c (tick now) exactlyIf AnswersAlike t c (tick now)
-  pub tick-tick : (a b : ℕ) → Commute t (tick a) (tick b) exactlyIf SameGestures t a b
+  pub setting-tick : (c : Call) → Setting c → (now : ℕ) → Commute t c (tick now) exactly_if AnswersAlike t c (tick now)
+  pub tick-tick : (a b : ℕ) → Commute t (tick a) (tick b) exactly_if SameGestures t a b
 
 -- "Log lines are not compared." Which of them differ, and how: `capture` and the tick alone log.
 

@@ -35,7 +35,3 @@ returns c =
     let some : 0 < n = omega arith in
     let within : n ≤ length pts = omega arith in
     (λ i. record { x = ap (λ (k : ℕ). k / n) t.0 i; y = ap (λ (k : ℕ). k / n) t.1 i }) ∙ sym (middle-some pts n some within) ∙ ap (λ (k : ℕ). middle (take k pts)) c.fingers_of-n.ensures.0
-
--- settled or unknown: nonzero-div-t7
-
--- settled or unknown: nonzero-div-t10
