@@ -1,19 +1,17 @@
 // What comes back, in one number.
 use calmap::Verdict;
-use gesture::{Gesture, Given};
+use gesture::Gesture;
 
 pub(crate) fn with(sum: u64, v: u64) -> u64 {
-    std::num::wrapping_add_u64(sum, v)
+    sum.wrapping_add(v)
 }
 
 pub(crate) fn signed(v: i32) -> u64 {
-    let m = panel::magnitude(v) as u64;
-    if v < 0 {
-        return m + 4294967296;
-    }
-    m
+    let m = u64::from(panel::magnitude(v));
+    if v < 0 { m + 4294967296 } else { m }
 }
 
+// By these numbers, and by those of verdict, the Rust beside it folds them.
 fn code(g: Gesture) -> u64 {
     match g {
         Gesture::Down(_) => 1,
@@ -36,11 +34,8 @@ fn code(g: Gesture) -> u64 {
     }
 }
 
-pub(crate) fn given(g: Given) -> u64 {
-    match g {
-        Given::Nothing => 0,
-        Given::Gave(g) => code(g),
-    }
+pub(crate) fn given(g: Option<Gesture>) -> u64 {
+    g.map_or(0, code)
 }
 
 pub(crate) fn verdict(v: Verdict) -> u64 {

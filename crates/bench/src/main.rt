@@ -10,67 +10,40 @@ mod rows;
 mod tracker;
 mod values;
 
-ghost use Rattle.std.specs.Prelude.{◌≡◌, ◌+◌, ◌≤◌, length, IfOk};
-ghost use Rattle.std.specs.Counts.{IsPrefixLen};
-
-use numbers::Cursor;
+use std::alloc::{AllocError, Global};
 use std::io;
-use std::io::{Read, Stdin};
+use std::io::Read;
 
-// Room for what standard input has; more is not read.
-fn input() -> [u8; 4096]
-    ensures { 4096 ≡ length result }
-{
-    [0; 4096]
-}
+// What standard input may have; more is not read.
+const INPUT_MOST: u64 = 4096;
 
-// One read into the room from a place on: how many bytes came, none where the input ends.
-fn read_on(from: &mut Stdin, room: &mut [u8], at: usize) -> io::Result<usize>
-    requires { at ≤ length room.old }
-    ensures { IfOk result (λ n. at + n ≤ length room.old) }
-{
-    from.read(&mut room[at..])
-}
-
-// Reads until the room is full or the input ends: how many bytes stand at its start.
-fn read_full(from: &mut Stdin, room: &mut [u8]) -> io::Result<usize>
-    ensures { IfOk result (λ n. IsPrefixLen n room.new) }
-{
-    let mut n = 0;
-    while n < room.len() {
-        let more = read_on(from, room, n)?;
-        if more == 0 {
-            return Ok(n);
-        }
-        n += more;
-    }
-    Ok(n)
-}
-
-// A row by its number.
-fn row(s: &[u8], kind: u64, calls: u64, to: Cursor) -> u64 {
+// A row by its number, which is its name outside.
+fn row(alloc: Global, s: &[u8], kind: u64, calls: u64, at: usize) -> Result<u64, AllocError> {
     match kind {
-        1 => tracker::reports(rounds::calls_at(s, to), calls),
-        2 => rows::apply16(values::at(s, to), calls),
-        3 => rows::isqrt(values::at(s, to), calls),
-        4 => rows::q16(values::at(s, to), calls),
-        5 => fits::fit(values::at(s, to), calls),
-        6 => tracker::ticks(rounds::calls_at(s, to), calls),
-        _ => 0,
+        1 => Ok(tracker::reports(&rounds::calls_at(alloc, s, at)?, calls)),
+        2 => rows::apply16(alloc, &values::all(alloc, s, at)?, calls),
+        3 => Ok(rows::isqrt(&values::all(alloc, s, at)?, calls)),
+        4 => rows::q16(alloc, &values::all(alloc, s, at)?, calls),
+        5 => Ok(fits::fit(&values::all(alloc, s, at)?, calls)),
+        6 => Ok(tracker::ticks(&rounds::calls_at(alloc, s, at)?, calls)),
+        _ => Ok(0),
     }
 }
 
-fn measured(s: &[u8]) -> u64 {
-    let kind = numbers::next_number(s, Cursor::At(0), numbers::MOST_64);
-    let a = kind.to;
-    let calls = numbers::next_number(s, a, numbers::MOST_64);
-    let b = calls.to;
-    row(s, kind.v, calls.v, b)
+// 0 where there is no row.
+fn measured(alloc: Global, s: &[u8]) -> Result<u64, AllocError> {
+    let Ok((kind, at)) = numbers::next_number(s, 0, numbers::MOST_64) else {
+        return Ok(0);
+    };
+    let Ok((calls, at)) = numbers::next_number(s, at, numbers::MOST_64) else {
+        return Ok(0);
+    };
+    row(alloc, s, kind, calls, at)
 }
 
 fn main(rt: HostRuntime) -> io::Result<()> {
-    let mut buf = input();
-    let n = read_full(&mut rt.stdin(), &mut buf)?;
-    let r = measured(&buf[..n]);
-    print!(rt; "{r}")
+    let mut input = Vec::new(rt.alloc());
+    rt.stdin().take(INPUT_MOST).read_to_end(&mut input)?;
+    let sum = measured(rt.alloc(), &input)?;
+    print!(rt; "{sum}")
 }

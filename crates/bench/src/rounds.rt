@@ -1,33 +1,19 @@
 // The calls on a tracker that a row makes again and again, read once.
-ghost use Rattle.std.specs.Prelude.{◌<◌};
-
-use gesture::CallKind;
-use numbers::Cursor;
+use gesture::Call;
 use panel::{Event, MAX_POINTS, Point};
-use trace::Taken;
+use std::alloc::{AllocError, Global};
 
-pub(crate) const PLACES: usize = 16;
+const MOST: usize = 16;
 
+// A report, an empty one for a tick, and its time. No Call: the two rows have a loop each, which calls event or tick
+// itself (tracker.rt), and by a Call each would ask which of the two it is, with both in one loop (docs/BENCH.md).
 #[derive(Clone, Copy)]
-pub(crate) struct Calls {
-    pub events: [Event; PLACES],
-    pub times: [u64; PLACES],
-    pub n: usize,
+pub(crate) struct Held {
+    pub event: Event,
+    pub time: u64,
 }
 
-#[derive(Clone, Copy)]
-struct One {
-    time: u64,
-    next: usize,
-}
-
-// A place among them, whatever the number is.
-pub(crate) fn slot(i: usize) -> usize
-    ensures { result < 16 }
-{
-    i % PLACES
-}
-
+// Where no finger is, and no key.
 fn no_event() -> Event {
     Event {
         points: 0,
@@ -37,51 +23,25 @@ fn no_event() -> Event {
     }
 }
 
-fn kept(k: CallKind, next: usize) -> One {
-    match k {
-        CallKind::Report(time) => One { time, next },
-        CallKind::Tick(time) => One { time, next },
-        _ => One { time: 0, next },
-    }
+fn timed(c: Call) -> Held {
+    let (event, time) = match c {
+        Call::Report(event, time) => (event, time),
+        Call::Tick(time) => (no_event(), time),
+        _ => (no_event(), 0),
+    };
+    Held { event, time }
 }
 
-fn place_of(c: Cursor) -> usize {
-    match c {
-        Cursor::At(place) => place,
-        Cursor::Stop(_, _) => 0,
+// All calls from a place on.
+pub(crate) fn calls_at(alloc: Global, s: &[u8], at: usize) -> Result<Vec<Held>, AllocError> {
+    let mut list = Vec::new(alloc);
+    let mut at = at;
+    for _ in 0..MOST {
+        let Ok((call, next)) = trace::next_record(s, at) else {
+            break;
+        };
+        list.push(timed(call))?;
+        at = next;
     }
-}
-
-// Where nothing more can be read, the next place is the length.
-fn one_of(t: Taken, length: usize) -> One {
-    match t {
-        Taken::Call(k, next) => kept(k, next),
-        Taken::Refused(_, _) => One {
-            time: 0,
-            next: length,
-        },
-    }
-}
-
-// All calls from here on.
-pub(crate) fn calls_at(s: &[u8], c: Cursor) -> Calls {
-    let mut events = [no_event(); PLACES];
-    let mut times = [0u64; PLACES];
-    let mut at = place_of(c);
-    let mut n = 0;
-    while n < PLACES {
-        if at < s.len() {
-            let r = trace::next_record(s, at);
-            let taken = r.taken;
-            let one = one_of(taken, s.len());
-            let ev = r.event;
-            events[n] = ev;
-            times[n] = one.time;
-            at = one.next;
-            n += 1;
-        } else {
-            return Calls { events, times, n };
-        }
-    }
-    Calls { events, times, n }
+    Ok(list)
 }

@@ -1,112 +1,68 @@
-// The rows of the calibration: each call takes the next of the numbers that are held.
-use crate::values::{Numbers, PLACES};
-use crate::{fold, values};
-use calmap::{ApplyAnswer, Cal, Q16};
-use touchcal::Q16Answer;
+// The rows of the calibration: each call takes the next of the numbers that are held. A loop each, in which the call
+// that is counted stands itself.
+use crate::fold;
+use crate::values::signed32;
+use calmap::{Cal, Q16, Spot};
+use panel::Refusal;
+use std::alloc::{AllocError, Global};
 
-// The place that is `by` after place k, or `first` behind the last one.
-fn after(k: usize, by: usize, n: usize, first: usize) -> usize {
-    let next = std::num::wrapping_add_usize(k, by);
-    if next < n { next } else { first }
-}
-
-pub(crate) fn isqrt(h: Numbers, calls: u64) -> u64 {
-    let v = h.v;
-    let mut sum = 0u64;
-    let mut k = 0;
-    let mut i = 0u64;
-    while i < calls {
-        let j = values::slot(k);
-        sum = fold::with(sum, calmap::isqrt(v[j]));
-        k = after(k, 1, h.n, 0);
-        i += 1;
+pub(crate) fn isqrt(held: &[u64], calls: u64) -> u64 {
+    let mut sum = 0;
+    for (_, v) in (0..calls).zip(held.iter().cycle()) {
+        sum = fold::with(sum, calmap::isqrt(*v));
     }
     sum
 }
 
 // Thousandths, as a float.
 fn float(v: u64) -> f32 {
-    std::num::nearest_i32_to_f32(values::signed32(v)) / 1000.0
+    std::num::nearest_i32_to_f32(signed32(v)) / 1000.0
 }
 
-fn floats(v: [u64; PLACES]) -> [f32; PLACES] {
-    let mut r = [0.0f32; PLACES];
-    let mut i = 0;
-    while i < PLACES {
-        r[i] = float(v[i]);
-        i += 1;
+fn stepped(told: Result<Q16, Refusal>) -> u64 {
+    told.map_or(1, |n| fold::signed(n.0))
+}
+
+pub(crate) fn q16(alloc: Global, held: &[u64], calls: u64) -> Result<u64, AllocError> {
+    let floats: Vec<f32> = held.iter().map(|v| float(*v)).collect(alloc)?;
+    let mut sum = 0;
+    for (_, x) in (0..calls).zip(floats.iter().cycle()) {
+        sum = fold::with(sum, stepped(touchcal::q16(*x)));
     }
-    r
+    Ok(sum)
 }
 
-fn stepped(a: Q16Answer) -> u64 {
-    match a {
-        Q16Answer::Answered(n) => fold::signed(n.0),
-        Q16Answer::Refused(_) => 1,
-    }
-}
-
-pub(crate) fn q16(h: Numbers, calls: u64) -> u64 {
-    let held = h.v;
-    let v = floats(held);
-    let mut sum = 0u64;
-    let mut k = 0;
-    let mut i = 0u64;
-    while i < calls {
-        let j = values::slot(k);
-        sum = fold::with(sum, stepped(touchcal::q16(v[j])));
-        k = after(k, 1, h.n, 0);
-        i += 1;
-    }
-    sum
-}
-
-fn cal(v: [u64; PLACES]) -> Cal {
-    Cal {
-        c0: Q16(values::signed32(v[0])),
-        c1: Q16(values::signed32(v[1])),
-        c2: Q16(values::signed32(v[2])),
-        c3: Q16(values::signed32(v[3])),
-        c4: Q16(values::signed32(v[4])),
-        c5: Q16(values::signed32(v[5])),
-    }
-}
-
-fn signs(v: [u64; PLACES]) -> [i32; PLACES] {
-    let mut r = [0i32; PLACES];
-    let mut i = 0;
-    while i < PLACES {
-        r[i] = values::signed32(v[i]);
-        i += 1;
-    }
-    r
-}
-
-fn applied(a: ApplyAnswer) -> u64 {
-    match a {
-        ApplyAnswer::Answered(s) => {
-            let x = s.0;
-            let y = s.1;
-            fold::with(fold::signed(x.0), fold::signed(y.0))
-        }
-        ApplyAnswer::Refused(_) => 1,
+fn applied(told: Result<Spot, Refusal>) -> u64 {
+    match told {
+        Ok(Spot(x, y)) => fold::with(fold::signed(x.0), fold::signed(y.0)),
+        Err(_) => 1,
     }
 }
 
 // Six steps, and then the points.
-pub(crate) fn apply16(h: Numbers, calls: u64) -> u64 {
-    let held = h.v;
-    let c = cal(held);
-    let v = signs(held);
-    let mut sum = 0u64;
-    let mut k = 6;
-    let mut i = 0u64;
-    while i < calls {
-        let x = v[values::slot(k)];
-        let y = v[values::slot(std::num::wrapping_add_usize(k, 1))];
-        sum = fold::with(sum, applied(calmap::apply16(c, x, y)));
-        k = after(k, 2, h.n, 6);
-        i += 1;
+pub(crate) fn apply16(alloc: Global, held: &[u64], calls: u64) -> Result<u64, AllocError> {
+    let [c0, c1, c2, c3, c4, c5, rest @ ..] = held else {
+        return Ok(0);
+    };
+    let step = |v: &u64| Q16(signed32(*v));
+    let c = Cal {
+        c0: step(c0),
+        c1: step(c1),
+        c2: step(c2),
+        c3: step(c3),
+        c4: step(c4),
+        c5: step(c5),
+    };
+    let mut points = Vec::new(alloc);
+    for xy in rest.chunks_exact(2) {
+        if let [x, y] = xy {
+            points.push((signed32(*x), signed32(*y)))?;
+        }
     }
-    sum
+    let mut sum = 0;
+    for (_, p) in (0..calls).zip(points.iter().cycle()) {
+        let (x, y) = *p;
+        sum = fold::with(sum, applied(calmap::apply16(c, x, y)));
+    }
+    Ok(sum)
 }

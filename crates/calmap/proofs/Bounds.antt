@@ -1,5 +1,6 @@
 -- How large the answers are: where a point lands that `apply16` answers, and how far a tap then is from its target. So
 -- 64 distances have a sum in u32 (`tenths-of-miss` of Telling.antt), and no sum of `resid` is WIDE. Assumes nothing.
+use Rattle.std.specs.Prelude.{Some, None, Ok, Err}
 use Prim.Native.Nat.{ℕ, ◌^◌, ◌≤◌, ◌<◌}
 use mathlib.Core.Path.{◌≡◌, refl, ◌∙◌}
 use mathlib.Core.Bool.{Bool, true, false}
@@ -18,8 +19,6 @@ use Rattle.calmap.specs.Sizes.{end32, sixteenths_in, twelve}
 use Rattle.calmap.specs.Units.{down_twelve, in_sixteenths, ◌⊟◌, sixteenths_fit}
 use Rattle.calmap.specs.Wide.{in32}
 use Rattle.calmap.specs.code.Checked.{farthest, square_in}
-use Rattle.calmap.specs.declared.gaps.Gap.TheVariants as Gap
-use Rattle.calmap.specs.declared.mapping.ApplyAnswer.TheVariants as Apply
 use Rattle.calmap.specs.declared.mapping.Spot.{Spot}
 use Rattle.calmap.specs.declared.units.Cal.{Cal}
 use Rattle.calmap.specs.declared.units.Q16.{Q16}
@@ -39,12 +38,12 @@ pub record Lands (s : Spot) : Type 0 where
   pub x : mag s.0.0 < 2 ^ 19
   pub y : mag s.1.0 < 2 ^ 19
 
-landed : (b : Bool) (s t : Spot) → (b ≡ true → Lands s) → when◌then◌else◌ b (Apply.Answered s) (Apply.Refused Refusal.Wide) ≡ Apply.Answered t → Lands t
+landed : (b : Bool) (s t : Spot) → (b ≡ true → Lands s) → when◌then◌else◌ b (Ok s) (Err Refusal.Wide) ≡ Ok t → Lands t
 unfolding when◌then◌else◌
 landed true s t f e = let q : s ≡ t = cc in rw q at (f refl)
 landed false s t f e = let z : ◌≡◌ {A = ℕ} 0 1 = cc in absurd (omega arith)
 
-pub applied-size : (c : Cal) (x y : ℤ) (s : Spot) → apply_of c x y ≡ Apply.Answered s → Lands s
+pub applied-size : (c : Cal) (x y : ℤ) (s : Spot) → apply_of c x y ≡ Ok s → Lands s
 unfolding apply_of
 applied-size c x y s e = landed _ _ s (λ h. record { x = line-size _ _ _ _ _ _ (and_left _ _ (and_right _ _ (and_right _ _ h))); y = line-size _ _ _ _ _ _ (and_right _ _ (and_right _ _ (and_right _ _ h))) }) e
 
@@ -65,7 +64,7 @@ squared-reach dx dy hx hy =
     let y = nat_abs-le dy.0 (ltb-true _ _ hy) in
     omega (arith, mul-le-mul x x, mul-le-mul y y)
 
-gap-at-most : (b : Bool) (n k : ℕ) → n ≤ k → square_in (when◌then◌else◌ b (Gap.Squared n) Gap.Wide) ≤ k
+gap-at-most : (b : Bool) (n k : ℕ) → n ≤ k → square_in (when◌then◌else◌ b (Some n) None) ≤ k
 unfolding when◌then◌else◌
 gap-at-most true n k h = h
 gap-at-most false n k h = omega arith
@@ -80,7 +79,7 @@ module _ (a : Sixteenths) (t : ℤ) (ha : mag a.0 < 2 ^ 19) (ht : mag t < 2 ^ 15
 
 -- and the WIDE of `resid` is always that of `apply16`
 pub miss-answered : (s : Spot) (x y : ℤ) → Lands s → mag x < 2 ^ 15 → mag y < 2 ^ 15
-    → gap_of s.0 s.1 (in_sixteenths x) (in_sixteenths y) ≡ Gap.Squared (squared (s.0 ⊟ in_sixteenths x) (s.1 ⊟ in_sixteenths y))
+    → gap_of s.0 s.1 (in_sixteenths x) (in_sixteenths y) ≡ Some (squared (s.0 ⊟ in_sixteenths x) (s.1 ⊟ in_sixteenths y))
 unfolding gap_of
 miss-answered s x y h hx hy = if-true _ _ _ (and-true _ _ (apart-in32 s.0 x h.x hx) ∙ apart-in32 s.1 y h.y hy)
 

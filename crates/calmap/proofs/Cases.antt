@@ -1,6 +1,7 @@
 -- Inputs on the line between two readings of document 01, computed: each is the smallest, or nearly, that tells the
 -- reading of specs/ from the other one. (The starred examples of document 01 have a table of their own.)
 -- Assumes nothing.
+use Rattle.std.specs.Prelude.{Ok, Err}
 use Prim.Native.Nat.{ℕ, ◌*◌}
 use mathlib.Core.Path.{◌≡◌, refl}
 use mathlib.Core.List.{[], ◌∷◌}
@@ -18,12 +19,7 @@ use Rattle.calmap.specs.Roots.{digit, root_by, root_of}
 use Rattle.calmap.specs.Screening.{nudge, nudge_fits, moved, screen_of}
 use Rattle.calmap.specs.Units.{steps, sixteenths, tenths}
 use Rattle.calmap.specs.Wide.{in32, in16, down}
-use Rattle.calmap.specs.declared.gaps.Dist10Answer.TheVariants as Dist10
-use Rattle.calmap.specs.declared.limits.CheckAnswer.TheVariants as Check
 use Rattle.calmap.specs.declared.limits.Verdict.TheVariants.{Pass, Scale, Shift}
-use Rattle.calmap.specs.declared.mapping.ApplyAnswer.TheVariants as Apply
-use Rattle.calmap.specs.declared.residuals.ResidAnswer.TheVariants as Resid
-use Rattle.calmap.specs.declared.screens.ScreenAnswer.TheVariants as Screen
 use Rattle.calmap.specs.declared.units.Cal.{Cal}
 use Rattle.calmap.specs.declared.units.Tap.{Tap}
 
@@ -34,12 +30,12 @@ abbrev at : ℕ → ℕ → Point
 at x y = record { x = x; y = y }
 
 -- Left to right: the whole sum is in i32, but x·65536 + c0·x on the way to it is not.
-wide-on-the-way : apply_of (cal (pos 65536) (negsuc 65535) (pos 0)) (pos 20000) (pos 20000) ≡ Apply.Refused Refusal.Wide
+wide-on-the-way : apply_of (cal (pos 65536) (negsuc 65535) (pos 0)) (pos 20000) (pos 20000) ≡ Err Refusal.Wide
 unfolding apply_of when◌then◌else◌ ◌and◌ in16 in32 line_fits line
 wide-on-the-way = refl
 
 -- `screen` has u16 input: 32768 is not one of i16, and is answered.
-screen-past-i16 : screen_of (cal (pos 0) (pos 0) (pos 0)) (at 32768 0) ≡ Screen.Answered (at 479 0)
+screen-past-i16 : screen_of (cal (pos 0) (pos 0) (pos 0)) (at 32768 0) ≡ Ok (at 479 0)
 unfolding screen_of when◌then◌else◌ ◌and◌ in32 nudge_fits nudge moved down
 screen-past-i16 = refl
 
@@ -49,7 +45,7 @@ unfolding root_of root_by digit when◌then◌else◌
 root-of-largest = refl
 
 -- A sum of 2^63 is answered.
-sum-past-i64 : dist10_of (sixteenths (negsuc 2147483647)) (sixteenths (negsuc 2147483647)) (sixteenths (pos 0)) (sixteenths (pos 0)) ≡ Dist10.Answered (tenths 1898125312)
+sum-past-i64 : dist10_of (sixteenths (negsuc 2147483647)) (sixteenths (negsuc 2147483647)) (sixteenths (pos 0)) (sixteenths (pos 0)) ≡ Ok (tenths 1898125312)
 unfolding gap_of when◌then◌else◌ ◌and◌ in32 squared tenths_of root_by digit
 sum-past-i64 = refl
 
@@ -79,21 +75,21 @@ tenths-over-the-limit = refl
 abbrev origin : Tap
 origin = record { x = pos 0; y = pos 0 }
 
-one-pair : resid_of (cal (pos 0) (pos 0) (pos 65536)) (pairs_of (replicate 65 origin) (origin ∷ [])) ≡ Resid.Answered (spread (tenths 10) (tenths 10))
+one-pair : resid_of (cal (pos 0) (pos 0) (pos 65536)) (pairs_of (replicate 65 origin) (origin ∷ [])) ≡ Ok (spread (tenths 10) (tenths 10))
 unfolding resid_by pairs_of misses_of miss_of mean_of sum_of largest apply_of when◌then◌else◌ ◌and◌ in16 in32 line_fits line down gap_of squared tenths_of root_by digit
 one-pair = refl
 
 -- and 65 of both are LONG, also where the first one is WIDE.
-long-before-wide : resid_of (cal (pos 0) (pos 0) (pos 2147483647)) (pairs_of (replicate 65 (record { x = pos 1; y = pos 0 })) (replicate 65 origin)) ≡ Resid.Refused Refusal.Long
+long-before-wide : resid_of (cal (pos 0) (pos 0) (pos 2147483647)) (pairs_of (replicate 65 (record { x = pos 1; y = pos 0 })) (replicate 65 origin)) ≡ Err Refusal.Long
 unfolding resid_by pairs_of when◌then◌else◌
 long-before-wide = refl
 
 -- 65 targets off the panel are LONG, one is TARGET, whatever the calibration.
-long-before-target : check_of (cal (pos 9831) (pos 0) (pos 0)) (replicate 65 (at 480 0)) ≡ Check.Refused Refusal.Long
+long-before-target : check_of (cal (pos 9831) (pos 0) (pos 0)) (replicate 65 (at 480 0)) ≡ Err Refusal.Long
 unfolding check_of when◌then◌else◌
 long-before-target = refl
 
-target-before-scale : check_of (cal (pos 9831) (pos 0) (pos 0)) (at 480 0 ∷ []) ≡ Check.Refused Refusal.Target
+target-before-scale : check_of (cal (pos 9831) (pos 0) (pos 0)) (at 480 0 ∷ []) ≡ Err Refusal.Target
 unfolding check_of when◌then◌else◌ all_on_panel on_panel ◌and◌
 target-before-scale = refl
 

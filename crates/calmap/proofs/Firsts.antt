@@ -1,4 +1,5 @@
 -- The first n of an array, n within what it holds: `check` and `resid` of them are not LONG. Assumes nothing.
+use Rattle.std.specs.Prelude.{Ok, Err}
 use Prim.Native.Nat.{ℕ, ◌≤◌, ◌<◌}
 use mathlib.Core.Path.{◌≡◌, ◌∙◌}
 use mathlib.Core.Bool.{false}
@@ -15,8 +16,6 @@ use Rattle.calmap.specs.Checks.{verdict_of, check_of, check_first}
 use Rattle.calmap.specs.Distances.{Rule}
 use Rattle.calmap.specs.Resids.{misses_of, spread_by, resid_by, resid_first_by}
 use Rattle.calmap.specs.Sizes.{longest}
-use Rattle.calmap.specs.declared.limits.CheckAnswer.TheVariants as Check
-use Rattle.calmap.specs.declared.residuals.ResidAnswer.TheVariants as Resid
 use Rattle.calmap.specs.declared.units.Aim.{Aim}
 use Rattle.calmap.specs.declared.units.Cal.{Cal}
 
@@ -24,27 +23,19 @@ not-long : {A : Type 0} (n : ℕ) (xs : List A) → n ≤ longest → (longest <
 not-long n xs h = le-ltb longest (length (take n xs)) (rw length-take (omega arith))
 
 module _ (rule : Rule) (c : Cal) (n : ℕ) (ps : List Aim) where
-  pub resid-long : longest < n → resid_first_by rule c n ps ≡ Resid.Refused Refusal.Long
+  pub resid-long : longest < n → resid_first_by rule c n ps ≡ Err Refusal.Long
   unfolding resid_first_by
   resid-long h = if-true _ _ _ (lt-ltb _ _ h)
-
-  pub resid-taken : n ≤ longest → resid_first_by rule c n ps ≡ resid_by rule c (take n ps)
-  unfolding resid_first_by
-  resid-taken h = if-false _ _ _ (le-ltb _ _ h)
 
   pub resid-first : n ≤ longest → resid_first_by rule c n ps ≡ spread_by rule (misses_of c (take n ps))
   unfolding resid_first_by resid_by
   resid-first h = if-false _ _ _ (le-ltb _ _ h) ∙ if-false _ _ _ (not-long n ps h)
 
 module _ (c : Cal) (n : ℕ) (ps : List Point) where
-  pub check-long : longest < n → check_first c n ps ≡ Check.Refused Refusal.Long
+  pub check-long : longest < n → check_first c n ps ≡ Err Refusal.Long
   unfolding check_first
   check-long h = if-true _ _ _ (lt-ltb _ _ h)
 
-  pub check-taken : n ≤ longest → check_first c n ps ≡ check_of c (take n ps)
-  unfolding check_first
-  check-taken h = if-false _ _ _ (le-ltb _ _ h)
-
-  pub check-first : n ≤ longest → check_first c n ps ≡ when◌then◌else◌ (all_on_panel (take n ps)) (Check.Answered (verdict_of c (take n ps))) (Check.Refused Refusal.Target)
+  pub check-first : n ≤ longest → check_first c n ps ≡ when◌then◌else◌ (all_on_panel (take n ps)) (Ok (verdict_of c (take n ps))) (Err Refusal.Target)
   unfolding check_first check_of
   check-first h = if-false _ _ _ (le-ltb _ _ h) ∙ if-false _ _ _ (not-long n ps h)

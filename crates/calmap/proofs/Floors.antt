@@ -2,19 +2,16 @@
 -- large what is left is; and a number held to the panel. Assumes nothing.
 use Prim.Native.Nat.{ℕ, zero, suc, ◌+◌, ◌*◌, ◌/◌, ◌^◌, ◌≤◌, ◌<◌}
 use mathlib.Core.Path.{◌≡◌, refl, sym, subst, ap, ◌∙◌}
-use mathlib.Core.Bool.{true, false, true≢false}
 use native.Mathlib.Nat.{div-add-mod', mod-lt, mul_comm, suc-mul, not-suc-le-zero, div-mul-le_self}
 use native.Mathlib.Numerals.{add-one}
 use native.Mathlib.Omega.{arith}
 use lib.Dec.{T, lt→ltb, le→leb}
-use lib.IntN.{ℤ, pos, negsuc, neg_ℤ, nat_abs, ◌*ℤ◌, ◌+ℤ◌, +ℤ_one}
+use lib.IntN.{ℤ, pos, negsuc, neg_ℤ, ◌*ℤ◌, ◌+ℤ◌, +ℤ_one}
 use lib.Pow.{pow_pos}
-use lib.Signed.{mag, shr_z, mag_shr, ◌≤ℤ◌, ◌<ℤ◌, le_z, lt_z, non_neg}
+use lib.Signed.{mag, shr_z, mag_shr, ◌≤ℤ◌, ◌<ℤ◌, le_z, lt_z}
 use mir.Syntax.{w32}
-use mir.Val.{to_z, of_z, Fits, SFits}
+use mir.Val.{to_z, of_z, SFits}
 use mir.ValLaws.{to_z-of_z, sfits_le}
-use borrow.Author.Tests.{ltb-true}
-use Rattle.calmap.specs.Screening.{clamp}
 use Rattle.calmap.specs.Sizes.{end32, sixteen}
 use Rattle.calmap.specs.Units.{down_sixteen}
 use Rattle.calmap.specs.Wide.{floor_div, down}
@@ -75,21 +72,3 @@ down-size places (negsuc n) = refl
 -- what `screen` adds to a coordinate, and the sum
 pub moved-fits : (v : ℕ) (s : Q16) → v < 65536 → mag s.0 < end32 → mag (pos v +ℤ down_sixteen s) < end32
 moved-fits v s hv hs = omega (arith, mag-add (pos v) (down_sixteen s), down-size sixteen s.0)
-
--- held to 0..last: from below, within, from above
-
-pub clamp-below : (last : ℕ) (m : ℤ) → lt_z m (pos 0) ≡ true → clamp last m ≡ 0
-clamp-below last (pos n) h = let z = ltb-true n 0 h in absurd (omega arith)
-clamp-below last (negsuc n) h = refl
-
-pub from_zero : (m : ℤ) → lt_z m (pos 0) ≡ false → SFits w32 m → T (non_neg m) × Fits w32 (nat_abs m)
-from_zero (pos n) h f = (tt, record { fits = omega arith })
-from_zero (negsuc n) h f = absurd (true≢false h)
-
-pub clamp-within : (last : ℕ) (m : ℤ) → lt_z m (pos 0) ≡ false → nat_abs m ≤ last → clamp last m ≡ nat_abs m
-clamp-within last (pos n) h l = omega arith
-clamp-within last (negsuc n) h l = absurd (true≢false h)
-
-pub clamp-above : (last : ℕ) (m : ℤ) → lt_z m (pos 0) ≡ false → last < nat_abs m → clamp last m ≡ last
-clamp-above last (pos n) h l = omega arith
-clamp-above last (negsuc n) h l = absurd (true≢false h)

@@ -1,13 +1,11 @@
--- What is held of a list: one more at the end goes where it belongs, and what is computed from what is held is what
--- document 01 says of the lists. Assumes nothing.
-use Prim.Native.Nat.{ℕ, zero, suc, ◌+◌, ◌≤◌, ◌<◌, min}
+-- What is held of a list: what is computed from it is what document 01 says of the lists. Assumes nothing.
+use Prim.Native.Nat.{ℕ, zero, suc, ◌≤◌, ◌<◌, min}
 use mathlib.Core.Path.{◌≡◌, refl, sym, ap, ◌∙◌}
-use mathlib.Core.Bool.{true, false}
 use mathlib.Core.List.{List, [], ◌∷◌, ◌++◌}
 use native.Mathlib.Nat.{not-suc-le-zero, le_of_suc-le-suc, lt_of_not-le, le_refl}
 use native.Mathlib.Decide.{dec_le}
 use native.Mathlib.Omega.{arith}
-use lib.ListN.{length, take, get_or, set, length-append}
+use lib.ListN.{length, take, drop, get_or, replicate}
 use borrow.Author.Tests.{lt-ltb, le-ltb}
 use Rattle.panel.proofs.Follow.{if-true, if-false, and-true, and-false}
 use Rattle.panel.specs.Tests.{◌and◌, ◌<?◌}
@@ -15,7 +13,7 @@ use Rattle.panel.specs.declared.points.Point.{Point}
 use Rattle.calmap.specs.Checks.{check_of, check_first}
 use Rattle.calmap.specs.Resids.{pairs_of, resid_of, resid_by, resid_first_by}
 use Rattle.calmap.specs.Sizes.{longest}
-use Rattle.calmap.specs.code.Arrays.{filled, tap0, point0, held_taps, held_points, held_pairs, pair_up, put_tap, put_point, resid_held, check_held}
+use Rattle.calmap.specs.code.Arrays.{filled, tap0, point0, held, held_points, held_pairs, pair_up, resid_held, check_held}
 use Rattle.calmap.specs.declared.units.Aim.{Aim}
 use Rattle.calmap.specs.declared.units.Cal.{Cal}
 use Rattle.calmap.specs.declared.units.Tap.{Tap}
@@ -23,17 +21,15 @@ use Rattle.calmap.specs.declared.units.Tap.{Tap}
 -- The array.
 
 module _ {A : Type 0} (none : A) where
-  filled-set : (k : ℕ) (xs : List A) (x : A) → length xs < k → set (filled none k xs) (length xs) x ≡ filled none k (xs ++ (x ∷ []))
+  -- as the code fills it
+  pub filled-is : (n k : ℕ) (xs : List A) → n ≡ min (length xs) k → take n xs ++ drop n (replicate k none) ≡ filled none k xs
   unfolding filled
-  filled-set zero xs x h = absurd (not-suc-le-zero h)
-  filled-set (suc k) [] x h = refl
-  filled-set (suc k) (y ∷ xs) x h = ap (λ (l : List A). y ∷ l) (filled-set k xs x (le_of_suc-le-suc h))
-
-  filled-past : (k : ℕ) (xs : List A) (x : A) → k ≤ length xs → filled none k xs ≡ filled none k (xs ++ (x ∷ []))
-  unfolding filled
-  filled-past zero xs x h = refl
-  filled-past (suc k) [] x h = absurd (not-suc-le-zero h)
-  filled-past (suc k) (y ∷ xs) x h = ap (λ (l : List A). y ∷ l) (filled-past k xs x (le_of_suc-le-suc h))
+  filled-is zero zero xs h = refl
+  filled-is (suc n) zero xs h = absurd (omega arith)
+  filled-is zero (suc k) [] h = ap (λ (l : List A). none ∷ l) (filled-is zero k [] (omega arith))
+  filled-is zero (suc k) (x ∷ xs) h = absurd (omega arith)
+  filled-is (suc n) (suc k) [] h = absurd (omega arith)
+  filled-is (suc n) (suc k) (x ∷ xs) h = ap (λ (l : List A). x ∷ l) (filled-is n k xs (omega arith))
 
   filled-take : (k n : ℕ) (xs : List A) → n ≤ k → n ≤ length xs → take n (filled none k xs) ≡ take n xs
   unfolding filled
@@ -41,62 +37,6 @@ module _ {A : Type 0} (none : A) where
   filled-take zero (suc n) xs h l = absurd (not-suc-le-zero h)
   filled-take (suc k) (suc n) [] h l = absurd (not-suc-le-zero l)
   filled-take (suc k) (suc n) (y ∷ xs) h l = ap (λ (t : List A). y ∷ t) (filled-take k n xs (le_of_suc-le-suc h) (le_of_suc-le-suc l))
-
-  -- the count and the test, of a list that is one longer
-
-  count-more : (xs : List A) (x : A) → length xs < longest → min (length xs) longest + 1 ≡ min (length (xs ++ (x ∷ []))) longest
-  count-more xs x h = rw length-append (omega arith)
-
-  count_past : (xs : List A) (x : A) → longest ≤ length xs → min (length xs) longest ≡ min (length (xs ++ (x ∷ []))) longest
-  count_past xs x h = rw length-append (omega arith)
-
-  long-more : (xs : List A) (x : A) → length xs < longest → (longest <? length xs) ≡ (longest <? length (xs ++ (x ∷ [])))
-  long-more xs x h = le-ltb longest (length xs) (omega arith) ∙ sym (le-ltb longest (length (xs ++ (x ∷ []))) (rw length-append (omega arith)))
-
-  long-past : (xs : List A) (x : A) → longest ≤ length xs → true ≡ (longest <? length (xs ++ (x ∷ [])))
-  long-past xs x h = sym (lt-ltb longest (length (xs ++ (x ∷ []))) (rw length-append (omega arith)))
-
-  room : (xs : List A) → length xs < longest → (min (length xs) longest <? longest) ≡ true
-  room xs h = lt-ltb (min (length xs) longest) longest (omega arith)
-
-  no_room : (xs : List A) → longest ≤ length xs → (min (length xs) longest <? longest) ≡ false
-  no_room xs h = le-ltb (min (length xs) longest) longest (omega arith)
-
-  set_more : (xs : List A) (x : A) → length xs < longest → set (filled none longest xs) (min (length xs) longest) x ≡ filled none longest (xs ++ (x ∷ []))
-  set_more xs x h =
-      let e : min (length xs) longest ≡ length xs = omega arith in
-      ap (λ (k : ℕ). set (filled none longest xs) k x) e ∙ filled-set longest xs x h
-
-by_length : {A P : Type 0} (xs : List A) → (length xs < longest → P) → (longest ≤ length xs → P) → P
-by_length {A} {P} xs f g = either (dec_le (suc (length xs)) longest)
-  where
-    either : Dec (length xs < longest) → P
-    either (yes h) = f h
-    either (no h) = g (omega (arith, lt_of_not-le h))
-
-module _ (ts : List Tap) (t : Tap) where
-  tap-more : length ts < longest → put_tap (held_taps ts) t ≡ held_taps (ts ++ (t ∷ []))
-  unfolding put_tap held_taps
-  tap-more h = if-true _ _ _ (room tap0 ts h) ∙ (λ i. record { list = set_more tap0 ts t h i; n = count-more tap0 ts t h i; long = long-more tap0 ts t h i })
-
-  tap-past : longest ≤ length ts → put_tap (held_taps ts) t ≡ held_taps (ts ++ (t ∷ []))
-  unfolding put_tap held_taps
-  tap-past h = if-false _ _ _ (no_room tap0 ts h) ∙ (λ i. record { list = filled-past tap0 longest ts t h i; n = count_past tap0 ts t h i; long = long-past tap0 ts t h i })
-
-  pub put-tap : put_tap (held_taps ts) t ≡ held_taps (ts ++ (t ∷ []))
-  put-tap = by_length ts tap-more tap-past
-
-module _ (ps : List Point) (p : Point) where
-  point-more : length ps < longest → put_point (held_points ps) p ≡ held_points (ps ++ (p ∷ []))
-  unfolding put_point held_points
-  point-more h = if-true _ _ _ (room point0 ps h) ∙ (λ i. record { list = set_more point0 ps p h i; n = count-more point0 ps p h i; long = long-more point0 ps p h i })
-
-  point-past : longest ≤ length ps → put_point (held_points ps) p ≡ held_points (ps ++ (p ∷ []))
-  unfolding put_point held_points
-  point-past h = if-false _ _ _ (no_room point0 ps h) ∙ (λ i. record { list = filled-past point0 longest ps p h i; n = count_past point0 ps p h i; long = long-past point0 ps p h i })
-
-  pub put-point : put_point (held_points ps) p ≡ held_points (ps ++ (p ∷ []))
-  put-point = by_length ps point-more point-past
 
 -- Aims.
 
@@ -138,32 +78,32 @@ both-over k a b = either (dec_le (suc k) a) (dec_le (suc k) b)
 
 module _ (ps : List Point) where
   pub points-long : (held_points ps).long ≡ (longest <? length ps)
-  unfolding held_points
+  unfolding held
   points-long = refl
 
   module _ (h : length ps ≤ longest) where
     pub points-count : (held_points ps).n ≡ length ps
-    unfolding held_points
+    unfolding held
     points-count = omega arith
 
     pub points-all : take (held_points ps).n (held_points ps).list ≡ ps
-    unfolding held_points
+    unfolding held
     points-all =
         let e : min (length ps) longest ≡ length ps = omega arith in
         ap (λ (k : ℕ). take k (filled point0 longest ps)) e ∙ filled-take point0 longest (length ps) ps h (le_refl _) ∙ take_all (length ps) ps (le_refl _)
 
 module _ (raw tgt : List Tap) where
   pub pairs-long : (held_pairs raw tgt).long ≡ (longest <? length (pairs_of raw tgt))
-  unfolding pair_up held_taps
+  unfolding pair_up held
   pairs-long = both-over longest (length raw) (length tgt) ∙ ap (λ (k : ℕ). longest <? k) (sym (pairs-length raw tgt))
 
   module _ (h : length (pairs_of raw tgt) ≤ longest) where
     pub pairs-count : (held_pairs raw tgt).n ≡ length (pairs_of raw tgt)
-    unfolding pair_up held_taps
+    unfolding pair_up held
     pairs-count = let e = pairs-length raw tgt in omega arith
 
     pub pairs-all : take (held_pairs raw tgt).n (held_pairs raw tgt).list ≡ pairs_of raw tgt
-    unfolding pair_up held_taps
+    unfolding pair_up held
     pairs-all =
         let n = length (pairs_of raw tgt) in
         let l = pairs-length raw tgt in

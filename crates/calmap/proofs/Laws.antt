@@ -1,6 +1,7 @@
 -- The laws that callers cite in place of the definitions' text: the root is the largest whose square is at most v; the
 -- tenths are the largest t with (16t) squared at most 100 times d2; the shift rounds toward minus infinity; what `screen`
 -- adds up is always in i32; where a point lands. Assumes nothing.
+use Rattle.std.specs.Prelude.{Ok}
 use Prim.Native.Nat.{ℕ, ◌+◌, ◌*◌, ◌^◌, ◌≤◌, ◌<◌}
 use mathlib.Core.Path.{◌≡◌}
 use mathlib.Core.Bool.{true}
@@ -13,7 +14,6 @@ use Rattle.calmap.specs.Roots.{root_of}
 use Rattle.calmap.specs.Sizes.{sixteenths_in, hundred}
 use Rattle.calmap.specs.Units.{steps_fit, down_sixteen}
 use Rattle.calmap.specs.Wide.{in32, down}
-use Rattle.calmap.specs.declared.mapping.ApplyAnswer.TheVariants.{Answered}
 use Rattle.calmap.specs.declared.mapping.Spot.{Spot}
 use Rattle.calmap.specs.declared.units.Cal.{Cal}
 use Rattle.calmap.specs.declared.units.Q16.{Q16}
@@ -87,5 +87,5 @@ unfolding in32
 moved-in32 v s hv hs = in32-yes (pos v +ℤ down_sixteen s) (Floors.moved-fits v s hv (ltb-true _ _ hs))
 
 -- Where a point lands: within 19 bits each way. So the distances of `resid` fit, and so does a target's shift in `check`.
-pub lands : (c : Cal) (x y : ℤ) (s : Spot) → apply_of c x y ≡ Answered s → Bounds.Lands s
+pub lands : (c : Cal) (x y : ℤ) (s : Spot) → apply_of c x y ≡ Ok s → Bounds.Lands s
 lands c x y s e = Bounds.applied-size c x y s e

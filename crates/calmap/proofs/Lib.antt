@@ -1,12 +1,11 @@
--- What the crates above may cite: `Laws`; `Firsts` and `Holding`, how `resid` and `check` of an array by value and of what
--- is held of a lent list are those of the list; `Tallying`, how a loop over taps comes to the residuals by a rule of tenths;
--- `Promises`. The other modules serve this crate's own proofs.
+-- What the crates above may cite: `Laws`; `Bounds`; `Firsts` and `Holding`, how `resid` and `check` of an array by value and of
+-- what is held of a lent list are those of the list; `Promises`. The other modules serve this crate's own proofs.
 pub mod Laws
 pub mod Bounds
 pub mod Firsts
 pub mod Holding
-pub mod Tallying
 pub mod Promises
+mod Tallying
 mod Signed
 mod Chains
 mod Slight

@@ -1,5 +1,6 @@
 -- The public calls in document 01's numbers: what each tells for every input, and that its contract leaves no second
 -- answer. Assumes nothing.
+use Rattle.std.specs.Prelude.{Option, Some, None, Result, Ok}
 use Prim.Native.Nat.{ℕ, ◌-◌, ◌^◌, ◌<◌}
 use mathlib.Core.Path.{◌≡◌, refl, ap, subst, ◌∙◌}
 use mathlib.Core.Bool.{Bool, true, false}
@@ -16,7 +17,7 @@ use Rattle.panel.specs.Sizes.{width, height}
 use Rattle.panel.specs.Tests.{when◌then◌else◌, ◌and◌, ◌<?◌}
 use Rattle.panel.specs.declared.points.Point.{Point}
 use Rattle.calmap.specs.Checks.{none, judged, scale_holds, all_stay, verdict_of, check_of, check_first, told_check}
-use Rattle.calmap.specs.Distances.{squared, gap_of, IsTenths, tenths_of, in_tenths, dist10_of, told_dist10}
+use Rattle.calmap.specs.Distances.{squared, gap_of, IsTenths, Rule, tenths_of, in_tenths, dist10_by, dist10_of, told_dist10}
 use Rattle.calmap.specs.Maps.{line, line_fits, spot, apply_of, told_apply}
 use Rattle.calmap.specs.Resids.{Misses, pairs_of, known, wide, miss_of, misses_of, mean_of, largest, spread, spread_by, resid_of, resid_by, resid_first, resid_first_by, told_resid}
 use Rattle.calmap.specs.Roots.{IsRoot, root_of}
@@ -25,18 +26,9 @@ use Rattle.calmap.specs.Sizes.{longest}
 use Rattle.calmap.specs.Units.{sixteenths, tenths, down_twelve, ◌⊟◌, sixteenths_fit, farther_of}
 use Rattle.calmap.specs.Wide.{in16}
 use Rattle.calmap.specs.code.Arrays.{held_points, held_pairs, resid_held, check_held}
-use Rattle.calmap.specs.declared.arrays.Aims.{Aims}
-use Rattle.calmap.specs.declared.arrays.Points.{Points}
-use Rattle.calmap.specs.declared.gaps.Dist10Answer.{Dist10Answer}
-use Rattle.calmap.specs.declared.gaps.Dist10Answer.TheVariants as Dist10
-use Rattle.calmap.specs.declared.gaps.Gap.{Gap}
-use Rattle.calmap.specs.declared.gaps.Gap.TheVariants.{Squared, Wide}
-use Rattle.calmap.specs.declared.limits.CheckAnswer.{CheckAnswer}
+use Rattle.calmap.specs.declared.arrays.Held.{Held}
 use Rattle.calmap.specs.declared.limits.Verdict.TheVariants.{Pass, Scale, Shift}
-use Rattle.calmap.specs.declared.mapping.ApplyAnswer.{ApplyAnswer}
-use Rattle.calmap.specs.declared.residuals.ResidAnswer.{ResidAnswer}
 use Rattle.calmap.specs.declared.residuals.Spread.{Spread}
-use Rattle.calmap.specs.declared.screens.ScreenAnswer.{ScreenAnswer}
 use Rattle.calmap.specs.declared.units.Aim.{Aim}
 use Rattle.calmap.specs.declared.units.Cal.{Cal}
 use Rattle.calmap.specs.declared.units.Sixteenths.{Sixteenths}
@@ -45,6 +37,9 @@ use Rattle.calmap.specs.declared.units.Tenths.{Tenths}
 use Rattle.calmap.proofs.Bounds.{squared-reach}
 use Rattle.calmap.proofs.Rooted.{root_is}
 use Rattle.calmap.proofs.Telling.{tenths-are}
+use Rattle.calmap.specs.declared.limits.Verdict.{Verdict}
+use Rattle.calmap.specs.declared.mapping.Spot.{Spot}
+use Rattle.panel.specs.declared.refusals.Refusal.{Refusal}
 
 abbrev tells : {A : Type 0} → ℕ → A → Told A
 tells n a = record { number = n; value = a }
@@ -77,12 +72,12 @@ dist10-tells ax ay bx by = if-of (λ g. told_dist10 (in_tenths tenths_of g)) _ _
 
 -- What it tells is the largest t with (16t) squared at most 100 times the squared distance, whatever that is: it is at most
 -- 2^63 (`squared-reach`).
-measured : (b : Bool) (d2 : ℕ) (t : Tenths) → (b ≡ true → d2 < 2 ^ 64) → in_tenths tenths_of (when◌then◌else◌ b (Squared d2) Wide) ≡ Dist10.Answered t → IsTenths t d2
+measured : (b : Bool) (d2 : ℕ) (t : Tenths) → (b ≡ true → d2 < 2 ^ 64) → in_tenths tenths_of (when◌then◌else◌ b (Some d2) None) ≡ Ok t → IsTenths t d2
 unfolding when◌then◌else◌
 measured true d2 t f e = let q : tenths_of d2 ≡ t = cc in subst (λ (x : Tenths). IsTenths x d2) q (tenths-are d2 (f refl))
 measured false d2 t f e = let z : ◌≡◌ {A = ℕ} 0 1 = cc in absurd (omega arith)
 
-pub dist10-measures : (ax ay bx by : Sixteenths) (t : Tenths) → dist10_of ax ay bx by ≡ Dist10.Answered t → IsTenths t (squared (ax ⊟ bx) (ay ⊟ by))
+pub dist10-measures : (ax ay bx by : Sixteenths) (t : Tenths) → dist10_of ax ay bx by ≡ Ok t → IsTenths t (squared (ax ⊟ bx) (ay ⊟ by))
 unfolding gap_of
 dist10-measures ax ay bx by t e =
     let dx = ax ⊟ bx in
@@ -129,48 +124,55 @@ check-of-tells c n ps = if-of told_check _ _ _
 pub isqrt-unique : (v : ℕ) {r s : ℕ} → r ≡ root_of v → s ≡ root_of v → r ≡ s
 isqrt-unique v = one_answer
 
-pub gap-unique : (ax ay bx by : Sixteenths) {r s : Gap} → r ≡ gap_of ax ay bx by → s ≡ gap_of ax ay bx by → r ≡ s
+pub gap-unique : (ax ay bx by : Sixteenths) {r s : Option ℕ} → r ≡ gap_of ax ay bx by → s ≡ gap_of ax ay bx by → r ≡ s
 gap-unique ax ay bx by = one_answer
 
-pub dist10-unique : (ax ay bx by : Sixteenths) {r s : Dist10Answer} → r ≡ dist10_of ax ay bx by → s ≡ dist10_of ax ay bx by → r ≡ s
+pub dist10-unique : (ax ay bx by : Sixteenths) {r s : Result Tenths Refusal} → r ≡ dist10_of ax ay bx by → s ≡ dist10_of ax ay bx by → r ≡ s
 dist10-unique ax ay bx by = one_answer
+
+module _ (rule : Rule) where
+  pub dist10-by-unique : (ax ay bx by : Sixteenths) {r s : Result Tenths Refusal} → r ≡ dist10_by rule ax ay bx by → s ≡ dist10_by rule ax ay bx by → r ≡ s
+  dist10-by-unique ax ay bx by = one_answer
+
+  pub resid-by-unique : (c : Cal) (n : ℕ) (ps : List Aim) {r s : Result Spread Refusal} → r ≡ resid_first_by rule c n ps → s ≡ resid_first_by rule c n ps → r ≡ s
+  resid-by-unique c n ps = one_answer
 
 pub farther-unique : (a b : Tenths) {r s : Tenths} → r ≡ farther_of a b → s ≡ farther_of a b → r ≡ s
 farther-unique a b = one_answer
 
 module _ (c : Cal) where
-  pub apply16-unique : (x y : ℤ) {r s : ApplyAnswer} → r ≡ apply_of c x y → s ≡ apply_of c x y → r ≡ s
+  pub apply16-unique : (x y : ℤ) {r s : Result Spot Refusal} → r ≡ apply_of c x y → s ≡ apply_of c x y → r ≡ s
   apply16-unique x y = one_answer
 
-  pub screen-unique : (p : Point) {r s : ScreenAnswer} → r ≡ screen_of c p → s ≡ screen_of c p → r ≡ s
+  pub screen-unique : (p : Point) {r s : Result Point Refusal} → r ≡ screen_of c p → s ≡ screen_of c p → r ≡ s
   screen-unique p = one_answer
 
-  pub miss-unique : (p : Aim) {r s : Gap} → r ≡ miss_of c p → s ≡ miss_of c p → r ≡ s
+  pub miss-unique : (p : Aim) {r s : Option ℕ} → r ≡ miss_of c p → s ≡ miss_of c p → r ≡ s
   miss-unique p = one_answer
 
-  pub resid-of-unique : (n : ℕ) (ps : List Aim) {r s : ResidAnswer} → r ≡ resid_first c n ps → s ≡ resid_first c n ps → r ≡ s
+  pub resid-of-unique : (n : ℕ) (ps : List Aim) {r s : Result Spread Refusal} → r ≡ resid_first c n ps → s ≡ resid_first c n ps → r ≡ s
   resid-of-unique n ps = one_answer
 
-  pub resid-held-unique : (a : Aims) {r s : ResidAnswer} → r ≡ resid_held c a → s ≡ resid_held c a → r ≡ s
+  pub resid-held-unique : (a : Held Aim) {r s : Result Spread Refusal} → r ≡ resid_held c a → s ≡ resid_held c a → r ≡ s
   resid-held-unique a = one_answer
 
-  pub check-of-unique : (n : ℕ) (ps : List Point) {r s : CheckAnswer} → r ≡ check_first c n ps → s ≡ check_first c n ps → r ≡ s
+  pub check-of-unique : (n : ℕ) (ps : List Point) {r s : Result Verdict Refusal} → r ≡ check_first c n ps → s ≡ check_first c n ps → r ≡ s
   check-of-unique n ps = one_answer
 
-  pub check-held-unique : (a : Points) {r s : CheckAnswer} → r ≡ check_held c a → s ≡ check_held c a → r ≡ s
+  pub check-held-unique : (a : Held Point) {r s : Result Verdict Refusal} → r ≡ check_held c a → s ≡ check_held c a → r ≡ s
   check-held-unique a = one_answer
 
 -- and of those that take lent lists, which they cannot alter
 module _ (raw tgt : List Tap) where
-  pub pairs-of-unique : {r s : Aims} → r ≡ held_pairs raw tgt → s ≡ held_pairs raw tgt → r ≡ s
+  pub pairs-of-unique : {r s : Held Aim} → r ≡ held_pairs raw tgt → s ≡ held_pairs raw tgt → r ≡ s
   pairs-of-unique = one_answer
 
-  pub resid-unique : (c : Cal) {r s : ResidAnswer} → r ≡ resid_of c (pairs_of raw tgt) → s ≡ resid_of c (pairs_of raw tgt) → r ≡ s
+  pub resid-unique : (c : Cal) {r s : Result Spread Refusal} → r ≡ resid_of c (pairs_of raw tgt) → s ≡ resid_of c (pairs_of raw tgt) → r ≡ s
   resid-unique c = one_answer
 
 module _ (ps : List Point) where
-  pub points-of-unique : {r s : Points} → r ≡ held_points ps → s ≡ held_points ps → r ≡ s
+  pub points-of-unique : {r s : Held Point} → r ≡ held_points ps → s ≡ held_points ps → r ≡ s
   points-of-unique = one_answer
 
-  pub check-unique : (c : Cal) {r s : CheckAnswer} → r ≡ check_of c ps → s ≡ check_of c ps → r ≡ s
+  pub check-unique : (c : Cal) {r s : Result Verdict Refusal} → r ≡ check_of c ps → s ≡ check_of c ps → r ≡ s
   check-unique c = one_answer

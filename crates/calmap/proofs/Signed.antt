@@ -1,18 +1,19 @@
 -- Sizes of sums, differences and products of integers, what a signed local's bits read back as, and the ends of i32
 -- and i16 as tests leave them. Assumes nothing.
 use Prim.Native.Nat.{ℕ, zero, suc, ◌+◌, ◌-◌, ◌*◌, ◌≤◌, ◌<◌, zero-le}
-use mathlib.Core.Path.{◌≡◌, refl, sym, subst, ◌∙◌}
-use mathlib.Core.Bool.{Bool, true, false, cond, not}
+use mathlib.Core.Path.{◌≡◌, refl}
+use mathlib.Core.Bool.{Bool, true, false, cond, ◌&&◌}
 use native.Mathlib.Nat.{le_refl, le_trans, le-suc, mul-le-mul}
 use native.Mathlib.Omega.{arith}
-use lib.Dec.{T, leb, ltb, ltb→lt, nltb→le}
-use lib.IntN.{ℤ, pos, negsuc, neg_ℤ, nat_abs, ◌+ℤ◌, ◌-ℤ◌, ◌*ℤ◌, +ℤ_idl}
-use lib.Signed.{mag, lt_z, le_z}
-use mir.Syntax.{w16, w32, w64}
+use lib.Dec.{leb, ltb}
+use lib.IntN.{ℤ, pos, negsuc, neg_ℤ, nat_abs, ◌+ℤ◌, ◌-ℤ◌, ◌*ℤ◌}
+use lib.Signed.{mag}
+use mir.Syntax.{w32}
 use mir.Val.{to_z, of_z, SFits}
 use mir.ValLaws.{to_z-of_z}
-use mir.Facts.{sfits_widen}
-use borrow.Author.Tests.{lt-ltb, le-leb, lt-leb, ltb-true, ltb-false}
+use borrow.Author.Tests.{lt-ltb, lt-leb, ltb-true, ltb-false}
+use Rattle.std.specs.Ordering.{int_cmp, is_le, is_lt}
+use Rattle.std.proofs.lemmas.Bool.Decides.{nat_tests}
 use Rattle.calmap.specs.Sizes.{end32}
 use Rattle.calmap.specs.Wide.{in32}
 
@@ -46,40 +47,15 @@ mag-mul (pos a) (negsuc b) = le_trans (mag-neg (a * suc b)) (mul-le-mul (le-suc 
 mag-mul (negsuc a) (pos b) = le_trans (mag-neg (suc a * b)) (mul-le-mul (le_refl (suc a)) (le-suc b))
 mag-mul (negsuc a) (negsuc b) = le_refl (suc a * suc b)
 
--- Of two numbers of 32 bits, the sum, the difference and the product fit 64.
-
-pub sum_fits : {a b : ℤ} → SFits w32 a → SFits w32 b → SFits w64 (a +ℤ b)
-sum_fits {a} {b} ha hb = record { sfits = omega (arith, mag-add a b, ha.sfits, hb.sfits) }
-
-pub difference-fits : {a b : ℤ} → SFits w32 a → SFits w32 b → SFits w64 (a -ℤ b)
-difference-fits {a} {b} ha hb = record { sfits = omega (arith, mag-sub a b, ha.sfits, hb.sfits) }
-
-pub product-fits : {a b : ℤ} → SFits w32 a → SFits w32 b → SFits w64 (a *ℤ b)
-product-fits {a} {b} ha hb = record { sfits = omega (arith, mag-mul a b, mul-le-mul ha.sfits hb.sfits) }
-
 -- What is read back.
 
 pub plain : {x : ℤ} → SFits w32 x → to_z w32 (of_z w32 x) ≡ x
 plain {x} h = to_z-of_z w32 x h
 
--- The ends of i32 and i16. `low` is the least number less 1, so that the test of it is `lt_z v (negsuc low)`.
-
-module _ (low : ℕ) where
-  pub below-low : (v : ℤ) → lt_z v (negsuc low) ≡ true → suc low ≤ mag v
-  below-low (pos n) h = absurd (subst T (sym h) tt)
-  below-low (negsuc n) h = ltb→lt low n (subst T (sym h) tt)
-
-  pub above-high : (v : ℤ) → lt_z (pos low) v ≡ true → suc low ≤ mag v
-  above-high (pos n) h = ltb→lt low n (subst T (sym h) tt)
-  above-high (negsuc n) h = absurd (subst T (sym h) tt)
-
-  pub between : (v : ℤ) → lt_z v (negsuc low) ≡ false → lt_z (pos low) v ≡ false → mag v < suc low
-  between (pos n) h k = omega (arith, nltb→le low n (subst (λ (b : Bool). T (not b)) (sym k) tt))
-  between (negsuc n) h k = omega (arith, nltb→le low n (subst (λ (b : Bool). T (not b)) (sym h) tt))
-
-  pub from_low : (v : ℤ) → lt_z v (negsuc low) ≡ false → lt_z v (pos (suc low)) ≡ ltb (mag v) (suc low)
-  from_low (pos n) h = refl
-  from_low (negsuc n) h = sym (lt-ltb n (suc low) (omega (arith, nltb→le low n (subst (λ (b : Bool). T (not b)) (sym h) tt))))
+-- A range of the library: from -(low + 1) to low.
+pub range-is : (low : ℕ) (v : ℤ) → (is_le (int_cmp (negsuc low) v) && is_lt (int_cmp v (pos (suc low)))) ≡ ltb (mag v) (suc low)
+range-is low (pos n) = grind (arith, nat_tests)
+range-is low (negsuc n) = grind (arith, nat_tests)
 
 pub in32-yes : (z : ℤ) → mag z < end32 → in32 z ≡ true
 unfolding in32
@@ -89,44 +65,12 @@ pub in32-fits : (z : ℤ) → in32 z ≡ true → SFits w32 z
 unfolding in32
 in32-fits z h = record { sfits = ltb-true _ _ h }
 
--- A number of 16 bits at 32.
+not-so : (b : Bool) → (b ≡ true → ⊥) → b ≡ false
+not-so true f = absurd (f refl)
+not-so false f = refl
 
-pub wide16 : {x : ℤ} → SFits w16 x → SFits w32 (to_z w16 (of_z w16 x))
-wide16 {x} h = subst (SFits w32) (sym (to_z-of_z w16 x h)) (sfits_widen tt h)
-
-pub read16 : {x : ℤ} → SFits w16 x → to_z w32 (of_z w32 (to_z w16 (of_z w16 x))) ≡ x
-read16 {x} h = to_z-of_z w32 (to_z w16 (of_z w16 x)) (wide16 h) ∙ to_z-of_z w16 x h
-
--- A number within n + 1 each way, as two tests leave it.
-
-module _ (n : ℕ) where
-  pub abs-over : (z : ℤ) → lt_z z (negsuc n) ≡ true → leb (nat_abs z) (suc n) ≡ false
-  abs-over (pos k) h = absurd (subst T (sym h) tt)
-  abs-over (negsuc k) h = let l = ltb→lt n k (subst T (sym h) tt) in lt-leb (suc k) (suc n) (omega arith)
-
-  pub abs-up-to : (z : ℤ) → lt_z z (negsuc n) ≡ false → le_z z (pos (suc n)) ≡ leb (nat_abs z) (suc n)
-  abs-up-to (pos k) h = refl
-  abs-up-to (negsuc k) h = let l = nltb→le n k (subst (λ (b : Bool). T (not b)) (sym h) tt) in sym (le-leb (suc k) (suc n) (omega arith))
-
--- and within a limit over 0, whose negative the code works out
-less : (n : ℕ) → pos 0 -ℤ pos (suc n) ≡ negsuc n
-less n = +ℤ_idl (negsuc n)
-
-module _ (m : ℤ) (over : ((n : ℕ) × (m ≡ pos (suc n)))) where
-  pub limit-turns : SFits w32 m → SFits w32 (pos 0 -ℤ m)
-  limit-turns =
-      let n = over.0 in
-      subst (λ (k : ℤ). SFits w32 k → SFits w32 (pos 0 -ℤ k)) (sym over.1) (λ f. subst (SFits w32) (sym (less n)) (record { sfits = omega (arith, f.sfits) }))
-
-  pub out-of-limit : (z : ℤ) → lt_z z (pos 0 -ℤ m) ≡ true → leb (nat_abs z) (nat_abs m) ≡ false
-  out-of-limit z =
-      let n = over.0 in
-      subst (λ (k : ℤ). lt_z z (pos 0 -ℤ k) ≡ true → leb (nat_abs z) (nat_abs k) ≡ false) (sym over.1) (λ h. abs-over n z (subst (λ (k : ℤ). lt_z z k ≡ true) (less n) h))
-
-  pub up-to-limit : (z : ℤ) → lt_z z (pos 0 -ℤ m) ≡ false → le_z z m ≡ leb (nat_abs z) (nat_abs m)
-  up-to-limit z =
-      let n = over.0 in
-      subst (λ (k : ℤ). lt_z z (pos 0 -ℤ k) ≡ false → le_z z k ≡ leb (nat_abs z) (nat_abs k)) (sym over.1) (λ h. abs-up-to n z (subst (λ (k : ℤ). lt_z z k ≡ false) (less n) h))
+pub in32-no : (z : ℤ) → (SFits w32 z → ⊥) → in32 z ≡ false
+in32-no z f = not-so (in32 z) (λ e. f (in32-fits z e))
 
 -- what leaves i32 is not within a limit below it
 pub abs-wide : (z : ℤ) (n : ℕ) → in32 z ≡ false → n < end32 → leb (nat_abs z) n ≡ false

@@ -3,7 +3,7 @@
 -- "`check`: a, b, d, e deltas within ±9830, else Scale; then each target's shift at most 640 sixteenths each way, else
 -- Shift. A sum past i32 there is Shift; the most negative i32 in those four is Scale." "LONG: over 64 targets; TARGET: a
 -- target off the panel". Order: "LONG, TARGET, then the verdict in `check`".
-use Rattle.std.specs.Prelude.{ℕ, Bool, true, false, List, [], ◌∷◌, pos, length, take}
+use Rattle.std.specs.Prelude.{ℕ, Bool, true, false, List, [], ◌∷◌, pos, length, take, Result, Ok, Err}
 use Rattle.panel.specs.Points.{all_on_panel}
 use Rattle.panel.specs.Refusals.{Told, answered, refused}
 use Rattle.panel.specs.Tests.{when◌then◌else◌, ◌and◌, ◌<?◌}
@@ -12,15 +12,13 @@ use Rattle.panel.specs.declared.refusals.Refusal.TheVariants.{Long, Target}
 use Rattle.calmap.specs.Maps.{apply_of}
 use Rattle.calmap.specs.Sizes.{longest, scale_limit, shift_limit}
 use Rattle.calmap.specs.Units.{steps_within, in_sixteenths, ◌⊟◌, sixteenths_within}
-use Rattle.calmap.specs.declared.limits.CheckAnswer.{CheckAnswer}
-use Rattle.calmap.specs.declared.limits.CheckAnswer.TheVariants.{Answered, Refused}
 use Rattle.calmap.specs.declared.limits.Verdict.{Verdict}
 use Rattle.calmap.specs.declared.limits.Verdict.TheVariants.{Pass, Scale, Shift}
-use Rattle.calmap.specs.declared.mapping.ApplyAnswer.{ApplyAnswer}
-use Rattle.calmap.specs.declared.mapping.ApplyAnswer.TheVariants as Apply
 use Rattle.calmap.specs.declared.units.Cal.{Cal}
 use Rattle.calmap.specs.declared.units.Q16.{Q16}
 use Rattle.calmap.specs.declared.units.Sixteenths.{Sixteenths}
+use Rattle.panel.specs.declared.refusals.Refusal.{Refusal}
+use Rattle.calmap.specs.declared.mapping.Spot.{Spot}
 
 unfoldable pub mild : Q16 → Bool
 mild q = steps_within scale_limit q
@@ -34,9 +32,9 @@ unfoldable pub near : Sixteenths → ℕ → Bool
 near s v = sixteenths_within shift_limit (s ⊟ in_sixteenths (pos v))
 
 -- a sum past i32 is too far as well
-abbrev pub lands : ApplyAnswer → Point → Bool
-lands (Apply.Answered s) p = near s.0 p.x and near s.1 p.y
-lands (Apply.Refused r) p = false
+abbrev pub lands : Result Spot Refusal → Point → Bool
+lands (Ok s) p = near s.0 p.x and near s.1 p.y
+lands (Err r) p = false
 
 unfoldable pub stays : Cal → Point → Bool
 stays c p = lands (apply_of c (pos p.x) (pos p.y)) p
@@ -50,21 +48,21 @@ verdict_of c ps =
     when scale_holds c then (when all_stay c ps then Pass else Shift)
     else Scale
 
-unfoldable pub check_of : Cal → List Point → CheckAnswer
+unfoldable pub check_of : Cal → List Point → Result Verdict Refusal
 check_of c ps =
-    when longest <? length ps then Refused Long
-    else when all_on_panel ps then Answered (verdict_of c ps)
-    else Refused Target
+    when longest <? length ps then Err Long
+    else when all_on_panel ps then Ok (verdict_of c ps)
+    else Err Target
 
 -- the first n of an array that holds 64
-unfoldable pub check_first : Cal → ℕ → List Point → CheckAnswer
-check_first c n ps = when longest <? n then Refused Long else check_of c (take n ps)
+unfoldable pub check_first : Cal → ℕ → List Point → Result Verdict Refusal
+check_first c n ps = when longest <? n then Err Long else check_of c (take n ps)
 
 -- a verdict, or that there is none
 pub data Judged : Type 0 where
   none : Judged
   judged : Verdict → Judged
 
-abbrev pub told_check : CheckAnswer → Told Judged
-told_check (Answered v) = answered (judged v)
-told_check (Refused r) = refused r none
+abbrev pub told_check : Result Verdict Refusal → Told Judged
+told_check (Ok v) = answered (judged v)
+told_check (Err r) = refused r none

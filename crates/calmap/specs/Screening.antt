@@ -3,7 +3,7 @@
 -- "`screen` (u16 input): k0·x + k1·y + k2 + 32768, same rule, down sixteen, added, clamped to the panel."
 --
 -- The sum that is added to a coordinate needs no test: `moved-in32` of proofs/Laws.antt says that it is always in i32.
-use Rattle.std.specs.Prelude.{ℕ, ◌-◌, min, Bool, ℤ, pos, negsuc, ◌+ℤ◌}
+use Rattle.std.specs.Prelude.{ℕ, ◌-◌, min, Bool, ℤ, pos, negsuc, ◌+ℤ◌, Result, Ok, Err}
 use Rattle.panel.specs.Refusals.{Told, answered, refused}
 use Rattle.panel.specs.Sizes.{width, height}
 use Rattle.panel.specs.Tests.{when◌then◌else◌, ◌and◌}
@@ -11,10 +11,9 @@ use Rattle.panel.specs.declared.points.Point.{Point}
 use Rattle.panel.specs.declared.refusals.Refusal.TheVariants.{Wide}
 use Rattle.calmap.specs.Sizes.{half}
 use Rattle.calmap.specs.Units.{◌·◌, ◌⊞◌, steps_fit, down_sixteen}
-use Rattle.calmap.specs.declared.screens.ScreenAnswer.{ScreenAnswer}
-use Rattle.calmap.specs.declared.screens.ScreenAnswer.TheVariants.{Answered, Refused}
 use Rattle.calmap.specs.declared.units.Cal.{Cal}
 use Rattle.calmap.specs.declared.units.Q16.{Q16}
+use Rattle.panel.specs.declared.refusals.Refusal.{Refusal}
 
 -- p·x + q·y + k + 32768
 unfoldable pub nudge : Q16 → Q16 → Q16 → ℤ → ℤ → Q16
@@ -35,14 +34,14 @@ clamp last (negsuc n) = 0
 unfoldable pub moved : ℕ → ℕ → Q16 → ℕ
 moved last v s = clamp last (pos v +ℤ down_sixteen s)
 
-unfoldable pub screen_of : Cal → Point → ScreenAnswer
+unfoldable pub screen_of : Cal → Point → Result Point Refusal
 screen_of c p =
     let x = pos p.x in
     let y = pos p.y in
     when nudge_fits c.c0 c.c1 c.c2 x y and nudge_fits c.c3 c.c4 c.c5 x y
-    then Answered (record { x = moved (width - 1) p.x (nudge c.c0 c.c1 c.c2 x y); y = moved (height - 1) p.y (nudge c.c3 c.c4 c.c5 x y) })
-    else Refused Wide
+    then Ok (record { x = moved (width - 1) p.x (nudge c.c0 c.c1 c.c2 x y); y = moved (height - 1) p.y (nudge c.c3 c.c4 c.c5 x y) })
+    else Err Wide
 
-abbrev pub told_screen : ScreenAnswer → Told Point
-told_screen (Answered p) = answered p
-told_screen (Refused r) = refused r (record { x = 0; y = 0 })
+abbrev pub told_screen : Result Point Refusal → Told Point
+told_screen (Ok p) = answered p
+told_screen (Err r) = refused r (record { x = 0; y = 0 })

@@ -3,22 +3,15 @@ ghost use Rattle.std.specs.Prelude.{◌≡◌, true};
 ghost use Rattle.calmap.specs.Wide.{in16};
 ghost use Rattle.calmap.specs.Units.{down_twelve};
 ghost use Rattle.calmap.specs.Maps.{line, line_fits, apply_of};
-ghost use Rattle.calmap.specs.code.Checked.{line_of, both_fit, map_fits, spot_of, few_pixels, few_steps, small, slight};
+ghost use Rattle.calmap.specs.code.Checked.{line_of, map_fits, spot_of, few_pixels, few_steps, small, slight};
 
 use crate::checked;
-use crate::checked::Narrow;
 use crate::units::{Cal, Q16, Sixteenths};
 use panel::Refusal;
 
 // A place in sixteenths of a pixel: x, then y.
-#[derive(Clone, Copy)]
+#[derive(Clone, Copy, Debug, PartialEq, Eq)]
 pub struct Spot(pub Sixteenths, pub Sixteenths);
-
-#[derive(Clone, Copy)]
-pub enum ApplyAnswer {
-    Answered(Spot),
-    Refused(Refusal),
-}
 
 // Pixels, and steps of a shift, each way. With fewer of them, and with coefficients of i16, the products and k are
 // below 2^29 and a little, 2^28, 2^28 and 2^29, and no sum of them leaves i32.
@@ -26,68 +19,57 @@ const NEAR: i32 = 8192;
 
 const SHORT: Q16 = Q16(536870912);
 
-// Whether v is one of i16.
+// Whether v is one of i16. By the range: with `i16::try_from(v).is_ok()` that it is what the definition `in16` says was
+// left open.
 fn in_i16(v: i32) -> bool
     ensures { result ≡ in16 v }
 {
-    if v < -32768 {
-        return false;
-    }
-    v < 32768
+    (-32768..32768).contains(&v)
 }
 
-// v·65536 + p·x + q·y + k in i32, from left to right.
-fn line(v: i32, p: Q16, q: Q16, k: Q16, x: i32, y: i32) -> Narrow
+// v·65536 + p·x + q·y + k in i32, from left to right. It takes one by one what `line` of specs/Maps.antt does. p, q and
+// k are a row of the six numbers, which document 01 counts c0 to c5. `nudge` of screens has three of these terms and a
+// half: one function of both would add a zero here.
+fn line(v: i32, p: Q16, q: Q16, k: Q16, x: i32, y: i32) -> Option<Q16>
     ensures { result ≡ line_of v p q k x y }
 {
-    let a = checked::plus(checked::whole(v), checked::scaled(p, x));
-    let b = checked::plus(a, checked::scaled(q, y));
-    checked::plus(b, Narrow::In(k))
+    let a = checked::add(checked::whole(v)?, checked::scaled(p, x)?)?;
+    let b = checked::add(a, checked::scaled(q, y)?)?;
+    checked::add(b, k)
 }
 
 // Whether none of its products and partial sums leaves i32.
 fn line_fits(v: i32, p: Q16, q: Q16, k: Q16, x: i32, y: i32) -> bool
     ensures { result ≡ line_fits v p q k x y }
 {
-    match line(v, p, q, k, x, y) {
-        Narrow::In(_) => true,
-        Narrow::Wide => false,
-    }
+    line(v, p, q, k, x, y).is_some()
 }
 
-// Whether (x, y) has a place through a to f, looked at product by product and sum by sum.
-fn both_fit(a: Q16, b: Q16, c: Q16, d: Q16, e: Q16, f: Q16, x: i32, y: i32) -> bool
-    ensures { result ≡ both_fit a b c d e f x y }
+// Whether (x, y) has a place through c, looked at product by product and sum by sum. It stands apart, since it is
+// seldom asked: inside `fits` it would keep that one out of those that call it, which then take more instructions.
+#[cold]
+#[inline(never)]
+fn both_fit(c: Cal, x: i32, y: i32) -> bool
+    ensures { result ≡ map_fits c x y }
 {
-    if in_i16(x) {
-        if in_i16(y) {
-            if line_fits(x, a, b, c, x, y) {
-                return line_fits(y, d, e, f, x, y);
-            }
-        }
-    }
-    false
+    in_i16(x)
+        && in_i16(y)
+        && line_fits(x, c.c0, c.c1, c.c2, x, y)
+        && line_fits(y, c.c3, c.c4, c.c5, x, y)
 }
 
 // Whether v is on a panel, or not far off it.
 fn few_pixels(v: i32) -> bool
     ensures { result ≡ few_pixels v }
 {
-    if v < -NEAR {
-        return false;
-    }
-    v < NEAR
+    (-NEAR..NEAR).contains(&v)
 }
 
 // Whether a shift is not far.
 fn few_steps(q: Q16) -> bool
     ensures { result ≡ few_steps q }
 {
-    let v = q.0;
-    if v < -SHORT.0 {
-        return false;
-    }
-    v < SHORT.0
+    (-SHORT.0..SHORT.0).contains(&q.0)
 }
 
 // Whether a scale or a cross term is less than a half off.
@@ -97,9 +79,9 @@ fn is_small(q: Q16) -> bool
     in_i16(q.0)
 }
 
-// Whether a calibration is slight: scales and cross terms less than a half off, and shifts not far. What `check`
-// passes at a target is. Its tests are joined by `&`, where others are nested: nested, `apply16` and a fit take more
-// instructions.
+// Whether a calibration is slight: scales and cross terms less than a half off, and shifts not far. What `check` passes
+// at a target is. Its tests are joined by `&`, where others are by `&&`: with that, `resid` of nine taps takes 13
+// instructions more, and a fit twice as many.
 fn is_slight(c: Cal) -> bool
     ensures { result ≡ slight c }
 {
@@ -108,23 +90,14 @@ fn is_slight(c: Cal) -> bool
 }
 
 // Whether (x, y) has a place through c: none of the products and partial sums leaves i32. Few pixels through a
-// slight calibration have, without a look at them. `both_fit` has two places here, since with one the compiler
-// would put it into this function, and this function no longer into those that call it.
+// slight calibration have, without a look at them.
 pub(crate) fn fits(c: Cal, x: i32, y: i32) -> bool
     ensures { result ≡ map_fits c x y }
 {
-    if is_slight(c) {
-        if few_pixels(x) {
-            if few_pixels(y) {
-                return true;
-            }
-        }
-        return both_fit(c.c0, c.c1, c.c2, c.c3, c.c4, c.c5, x, y);
-    }
-    both_fit(c.c0, c.c1, c.c2, c.c3, c.c4, c.c5, x, y)
+    is_slight(c) && few_pixels(x) && few_pixels(y) || both_fit(c, x, y)
 }
 
-// v·65536 + p·x + q·y + k where it fits.
+// v·65536 + p·x + q·y + k where it fits: what `line` is Some of, for those that have asked `fits`.
 fn line_at(v: i32, p: Q16, q: Q16, k: Q16, x: i32, y: i32) -> Q16
     requires { line_fits v p q k x y ≡ true }
     ensures { result ≡ line v p q k x y }
@@ -134,7 +107,8 @@ fn line_at(v: i32, p: Q16, q: Q16, k: Q16, x: i32, y: i32) -> Q16
     checked::sum_at(b, k)
 }
 
-// Steps down by twelve places, toward minus infinity, are sixteenths.
+// Steps down by twelve places, toward minus infinity, are sixteenths. Document 01 wants a signed right shift here and
+// in `down_sixteen` of screens: a function of both would lose the unit, which is another for each.
 fn down_twelve(q: Q16) -> Sixteenths
     ensures { result ≡ down_twelve q }
 {
@@ -152,11 +126,11 @@ pub(crate) fn spot_at(c: Cal, x: i32, y: i32) -> Spot
 }
 
 // The point (x, y) through c, in sixteenths of a pixel, held to nothing.
-pub fn apply16(c: Cal, x: i32, y: i32) -> ApplyAnswer
+pub fn apply16(c: Cal, x: i32, y: i32) -> Result<Spot, Refusal>
     ensures { result ≡ apply_of c x y }
 {
     if fits(c, x, y) {
-        return ApplyAnswer::Answered(spot_at(c, x, y));
+        return Ok(spot_at(c, x, y));
     }
-    ApplyAnswer::Refused(Refusal::Wide)
+    Err(Refusal::Wide)
 }

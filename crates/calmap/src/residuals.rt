@@ -1,33 +1,26 @@
 // How far taps land from their targets, through a calibration.
 ghost use Rattle.std.specs.Prelude.{◌≡◌, ◌+◌, ◌≤◌, ◌<◌};
 ghost use Rattle.calmap.specs.Units.{farther_of, together_of};
-ghost use Rattle.calmap.specs.Resids.{miss_of, resid_first};
+ghost use Rattle.calmap.specs.Resids.{miss_of, resid_first, resid_first_by};
 ghost use Rattle.calmap.specs.code.Checked.{farthest, square_in};
 
-use crate::gaps::Gap;
-use crate::mapping::ApplyAnswer;
-use crate::units::{Aim, Cal, MAX_TAPS, Tenths};
-use crate::{gaps, mapping, pixels};
+use crate::gaps::{Rule, Scaled};
+use crate::units::{Aim, Cal, MAX_TAPS, Sixteenths, Tenths};
+use crate::{gaps, mapping};
 use panel::Refusal;
 
 // The mean, rounded down, and the largest of some distances; both are 0 for none.
-#[derive(Clone, Copy)]
+#[derive(Clone, Copy, Debug, PartialEq, Eq)]
 pub struct Spread {
     pub mean: Tenths,
     pub max: Tenths,
 }
 
-#[derive(Clone, Copy)]
-pub enum ResidAnswer {
-    Answered(Spread),
-    Refused(Refusal),
-}
-
-// The larger of two distances.
+// The larger of two distances. It has a name, since the definitions name it `farther_of`.
 pub fn farther(a: Tenths, b: Tenths) -> Tenths
     ensures { result ≡ farther_of a b }
 {
-    Tenths(panel::larger(a.0, b.0))
+    a.max(b)
 }
 
 // Their sum.
@@ -40,47 +33,50 @@ fn together(a: Tenths, b: Tenths) -> Tenths
 
 // How far a tap lands from its target, squared. It lands within 2^19 sixteenths of 0 each way, and its target is there
 // too.
-pub fn miss(c: Cal, p: Aim) -> Gap
+pub fn miss(c: Cal, p: Aim) -> Option<u64>
     ensures { (result ≡ miss_of c p) × (square_in result ≤ farthest) }
 {
-    let raw = p.raw;
-    let tgt = p.tgt;
-    let ApplyAnswer::Answered(s) = mapping::apply16(c, pixels::of_i16(raw.x), pixels::of_i16(raw.y))
-    else {
-        return Gap::Wide;
-    };
-    gaps::gap_between(s.0, s.1, pixels::tap_in_16(tgt.x), pixels::tap_in_16(tgt.y))
+    let s = mapping::apply16(c, i32::from(p.raw.x), i32::from(p.raw.y)).ok()?;
+    gaps::gap_between(
+        s.0,
+        s.1,
+        Sixteenths::from(p.tgt.x),
+        Sixteenths::from(p.tgt.y),
+    )
 }
 
-// Mean and largest distance of the first n taps from their targets, through c. A distance is at most 1310720 tenths, so
-// that 64 of them fit a u32.
-pub fn resid_of(c: Cal, pairs: [Aim; MAX_TAPS], n: usize) -> ResidAnswer
-    ensures { result ≡ resid_first c n pairs }
+// Mean and largest distance of the first n taps from their targets, through c, by a rule of tenths. A distance is at
+// most 1310720 tenths, so that 64 of them fit a u32. An array by value with its count: the core for which lent lists
+// are taken apart (document 01, "The form each place takes").
+pub fn resid_by<R: Rule>(c: Cal, pairs: [Aim; MAX_TAPS], n: usize) -> Result<Spread, Refusal>
+    ensures { result ≡ resid_first_by R.tenths c n pairs }
 {
     if MAX_TAPS < n {
-        return ResidAnswer::Refused(Refusal::Long);
+        return Err(Refusal::Long);
     }
     if n == 0 {
-        return ResidAnswer::Answered(Spread {
+        return Ok(Spread {
             mean: Tenths(0),
             max: Tenths(0),
         });
     }
     let mut sum = Tenths(0);
     let mut most = Tenths(0);
-    let mut i = 0;
-    while i < n {
-        let p = pairs[i];
-        let Gap::Squared(d2) = miss(c, p) else {
-            return ResidAnswer::Refused(Refusal::Wide);
-        };
-        let d = gaps::in_tenths(d2);
+    for p in &pairs[..n] {
+        let d2 = miss(c, *p).ok_or(Refusal::Wide)?;
+        let d = R::in_tenths(d2);
         sum = together(sum, d);
         most = farther(most, d);
-        i += 1;
     }
-    ResidAnswer::Answered(Spread {
+    Ok(Spread {
         mean: Tenths(sum.0 / (n as u32)),
         max: most,
     })
+}
+
+// By the rule of the calls.
+pub fn resid_of(c: Cal, pairs: [Aim; MAX_TAPS], n: usize) -> Result<Spread, Refusal>
+    ensures { result ≡ resid_first c n pairs }
+{
+    resid_by::<Scaled>(c, pairs, n)
 }

@@ -1,24 +1,22 @@
 -- "On both sides of the line (★ proved)": document 01's starred cases, one table. A case is a call, or calls on a fresh
 -- tracker, and what the last of them answers by the definitions that the contracts name. Where the document says how the
 -- tracker stands ("told mask 1", "after a multi release"), calls from a fresh tracker bring it there.
-use Rattle.std.specs.Prelude.{ℕ, ◌≡◌, List, [], ◌∷◌, ℤ, pos, negsuc}
+use Rattle.std.specs.Prelude.{ℕ, ◌≡◌, List, [], ◌∷◌, ℤ, pos, negsuc, Some, None, Ok}
 use Rattle.calmap.specs.Checks.{check_of}
 use Rattle.calmap.specs.Maps.{spot, apply_of}
 use Rattle.calmap.specs.Units.{sixteenths}
-use Rattle.calmap.specs.declared.limits.CheckAnswer.TheVariants as Check
 use Rattle.calmap.specs.declared.limits.Verdict.{Verdict}
 use Rattle.calmap.specs.declared.limits.Verdict.TheVariants.{Pass, Shift}
-use Rattle.calmap.specs.declared.mapping.ApplyAnswer.TheVariants as Apply
 use Rattle.calmap.specs.declared.units.Cal.{Cal}
 use Rattle.calmap.specs.declared.units.Q16.{Q16}
 use Rattle.fingers.specs.declared.gestures.Gesture.{Gesture}
 use Rattle.fingers.specs.declared.gestures.Gesture.TheVariants.{Down, Tap, Drag, SwipeRight, KeyDown, KeyUp}
+use Rattle.gesture.specs.Answers.{refusal_of, given, logged_by}
 use Rattle.gesture.specs.Calls.{Call, report, tick, answer_of}
 use Rattle.gesture.specs.Letters.{ascii_N}
 use Rattle.gesture.specs.Lines.{line}
 use Rattle.gesture.specs.Runs.{after}
 use Rattle.gesture.specs.Trackers.{fresh_tracker}
-use Rattle.gesture.specs.declared.answers.Given.TheVariants.{Nothing, Gave}
 use Rattle.panel.specs.declared.axes.Axis.TheVariants.{H}
 use Rattle.panel.specs.declared.points.Point.{Point}
 
@@ -35,13 +33,13 @@ pub data Case : Type 0 where
   checks : Cal → List Point → Verdict → Case
 
 unfoldable pub Holds : Case → Type 0
-Holds (gives before c g) = (answer_of (after fresh_tracker before) c).gesture ≡ Gave g
+Holds (gives before c g) = given (answer_of (after fresh_tracker before) c) ≡ Some g
 Holds (silent before c) =
-    ((answer_of (after fresh_tracker before) c).refusal ≡ 0) × ((answer_of (after fresh_tracker before) c).gesture ≡ Nothing)
+    (refusal_of (answer_of (after fresh_tracker before) c) ≡ 0) × (given (answer_of (after fresh_tracker before) c) ≡ None)
 Holds (notes before c n p now) =
-    ((answer_of (after fresh_tracker before) c).gesture ≡ Nothing) × ((answer_of (after fresh_tracker before) c).log ≡ line ascii_N n p now)
-Holds (applies c x y ax ay) = apply_of c (pos x) (pos y) ≡ Apply.Answered (spot (sixteenths ax) (sixteenths ay))
-Holds (checks c targets v) = check_of c targets ≡ Check.Answered v
+    (given (answer_of (after fresh_tracker before) c) ≡ None) × (logged_by (answer_of (after fresh_tracker before) c) ≡ line ascii_N n p now)
+Holds (applies c x y ax ay) = apply_of c (pos x) (pos y) ≡ Ok (spot (sixteenths ax) (sixteenths ay))
+Holds (checks c targets v) = check_of c targets ≡ Ok v
 
 unfoldable pub AllHold : List Case → Type 0
 AllHold [] = Unit {0}

@@ -1,43 +1,26 @@
 // The calibration: where a correction is too large, distances on both sides of a tenth, the fit of four corners onto
 // themselves, moved, and taps that have no fit.
-use crate::print;
-use calmap::{Aim, Cal, CheckAnswer, Dist10Answer, Q16, Sixteenths, Tap, Tenths, Verdict};
+use crate::print::{Shown, Told};
+use calmap::{Aim, Cal, MAX_TAPS, Q16, Sixteenths, Tap};
 use panel::{Point, Refusal};
-use std::io;
-use touchcal::{CoefPlace, Fit, FitAnswer};
+use std::fmt::Display;
+use std::{fmt, io};
+use touchcal::{Fit, Unfit};
 
 // A calibration that moves x alone.
 fn moves_x(c2: i32) -> Cal {
-    let z = Q16(0);
     Cal {
-        c0: z,
-        c1: z,
         c2: Q16(c2),
-        c3: z,
-        c4: z,
-        c5: z,
-    }
-}
-
-fn verdict(rt: &impl Print, v: Verdict) -> io::Result<()> {
-    match v {
-        Verdict::Pass => print::name(rt, print::PASS),
-        Verdict::Scale => print::name(rt, print::SCALE),
-        Verdict::Shift => print::name(rt, print::SHIFT),
-        Verdict::Resid => print::name(rt, print::RESID),
+        ..touchcal::no_cal()
     }
 }
 
 fn check(rt: &impl Print, c2: i32) -> io::Result<()> {
-    print::word(rt, b"check, only c2")?;
-    print::signed(rt, c2)?;
-    print::gives(rt)?;
-    let targets = [Point { x: 0, y: 0 }; 64];
-    match calmap::check_of(moves_x(c2), targets, 1) {
-        CheckAnswer::Answered(v) => verdict(rt, v)?,
-        CheckAnswer::Refused(r) => print::refusal(rt, r)?,
-    }
-    print::end(rt)
+    let targets = [Point { x: 0, y: 0 }; MAX_TAPS];
+    println!(rt;
+        "check, only c2 {c2} -> {}",
+        Told(calmap::check_of(moves_x(c2), targets, 1).map(Shown))
+    )
 }
 
 pub(crate) fn checks(rt: &impl Print) -> io::Result<()> {
@@ -47,22 +30,13 @@ pub(crate) fn checks(rt: &impl Print) -> io::Result<()> {
     check(rt, -2621441)
 }
 
-fn tenths(rt: &impl Print, t: Tenths) -> io::Result<()> {
-    print::number(rt, t.0 as u64)
-}
-
 // The distance of two places that are so far apart along x and along y.
 fn dist10(rt: &impl Print, dx: i32, dy: i32) -> io::Result<()> {
-    print::word(rt, b"dist10, by")?;
-    print::signed(rt, dx)?;
-    print::signed(rt, dy)?;
-    print::gives(rt)?;
     let z = Sixteenths(0);
-    match calmap::dist10(Sixteenths(dx), Sixteenths(dy), z, z) {
-        Dist10Answer::Answered(t) => tenths(rt, t)?,
-        Dist10Answer::Refused(r) => print::refusal(rt, r)?,
-    }
-    print::end(rt)
+    println!(rt;
+        "dist10, by {dx} {dy} -> {}",
+        Told(calmap::dist10(Sixteenths(dx), Sixteenths(dy), z, z).map(Shown))
+    )
 }
 
 // The roots 401 and 402, exact ones; the squared distances 13 and 2^63.
@@ -81,9 +55,11 @@ fn corner(x: i16, y: i16, u: i16, v: i16) -> Aim {
     }
 }
 
+// A function for each kind of case, of corners here and of three taps below: its numbers are read at one glance.
+
 // The corners from (0, 0) to (100, 100) onto themselves, moved along x to left and right.
-fn corners(left: i16, right: i16) -> [Aim; 64] {
-    let mut pairs = [corner(0, 0, 0, 0); 64];
+fn corners(left: i16, right: i16) -> [Aim; MAX_TAPS] {
+    let mut pairs = [corner(0, 0, 0, 0); MAX_TAPS];
     pairs[0] = corner(0, 0, left, 0);
     pairs[1] = corner(100, 0, right, 0);
     pairs[2] = corner(0, 100, left, 100);
@@ -92,8 +68,8 @@ fn corners(left: i16, right: i16) -> [Aim; 64] {
 }
 
 // The corners onto themselves, but for two that are opposite, moved by the same: the fit lies half way.
-fn two_corners(by: i16, down: i16, right: i16, below: i16) -> [Aim; 64] {
-    let mut pairs = [corner(0, 0, 0, 0); 64];
+fn two_corners(by: i16, down: i16, right: i16, below: i16) -> [Aim; MAX_TAPS] {
+    let mut pairs = [corner(0, 0, 0, 0); MAX_TAPS];
     pairs[0] = corner(0, 0, by, down);
     pairs[1] = corner(100, 0, 100, 0);
     pairs[2] = corner(0, 100, 0, 100);
@@ -101,53 +77,34 @@ fn two_corners(by: i16, down: i16, right: i16, below: i16) -> [Aim; 64] {
     pairs
 }
 
-fn steps(rt: &impl Print, c: Cal) -> io::Result<()> {
-    print::signed(rt, c.c0.0)?;
-    print::signed(rt, c.c1.0)?;
-    print::signed(rt, c.c2.0)?;
-    print::signed(rt, c.c3.0)?;
-    print::signed(rt, c.c4.0)?;
-    print::signed(rt, c.c5.0)
-}
+// A fit, or why there is none. Where a coefficient is too large the refusal's number has its place behind it.
+#[derive(Clone, Copy)]
+struct Fitted(Result<Fit, Unfit>);
 
-fn fitted(rt: &impl Print, f: Fit) -> io::Result<()> {
-    steps(rt, f.cal)?;
-    tenths(rt, f.mean)?;
-    tenths(rt, f.max)?;
-    tenths(rt, f.before)?;
-    let v = f.verdict;
-    verdict(rt, v)
-}
-
-// The refusal that carries a value: a coefficient is too large, and which.
-fn steep(rt: &impl Print, p: CoefPlace) -> io::Result<()> {
-    print::refusal(rt, Refusal::Steep)?;
-    print::byte(rt, p.0)
-}
-
-// The fit of the first n of these pairs, held against one target.
-fn fit(rt: &impl Print, pairs: [Aim; 64], n: usize) -> io::Result<()> {
-    print::gives(rt)?;
-    let targets = [Point { x: 240, y: 160 }; 64];
-    match touchcal::fit_of(pairs, n, targets, 1) {
-        FitAnswer::Answered(f) => fitted(rt, f)?,
-        FitAnswer::Refused(r) => print::refusal(rt, r)?,
-        FitAnswer::Steep(p) => steep(rt, p)?,
+impl Display for Fitted {
+    fn fmt<W: fmt::Write>(&self, f: &mut fmt::Formatter<W>) -> fmt::Result {
+        match self.0 {
+            Ok(fit) => write!(f, "{}", Shown(fit)),
+            Err(Unfit::Refused(why)) => write!(f, "{}", Told::<u8>(Err(why))),
+            Err(Unfit::Steep(p)) => write!(f, "{} {}", Told::<u8>(Err(Refusal::Steep)), p.0),
+        }
     }
-    print::end(rt)
 }
 
-fn moved(rt: &impl Print, by: u64, pairs: [Aim; 64]) -> io::Result<()> {
-    print::word(rt, b"fit, corners moved by")?;
-    print::number(rt, by)?;
-    fit(rt, pairs, 4)
+// By an array and its count, as fit_of takes them. The fit of the first n of these pairs, held against one target.
+fn fit(pairs: [Aim; MAX_TAPS], n: usize) -> Fitted {
+    Fitted(touchcal::fit_of(pairs, n, [Point { x: 240, y: 160 }; MAX_TAPS], 1))
 }
 
-fn two_moved(rt: &impl Print, by: u64, down: u64, pairs: [Aim; 64]) -> io::Result<()> {
-    print::word(rt, b"fit, two corners moved by")?;
-    print::number(rt, by)?;
-    print::number(rt, down)?;
-    fit(rt, pairs, 4)
+fn moved(rt: &impl Print, by: u64, pairs: [Aim; MAX_TAPS]) -> io::Result<()> {
+    println!(rt; "fit, corners moved by {by} -> {}", fit(pairs, 4))
+}
+
+fn two_moved(rt: &impl Print, by: u64, down: u64, pairs: [Aim; MAX_TAPS]) -> io::Result<()> {
+    println!(rt;
+        "fit, two corners moved by {by} {down} -> {}",
+        fit(pairs, 4)
+    )
 }
 
 pub(crate) fn fits(rt: &impl Print) -> io::Result<()> {
@@ -157,50 +114,32 @@ pub(crate) fn fits(rt: &impl Print) -> io::Result<()> {
     two_moved(rt, 50, 5, two_corners(50, 5, 150, 105))
 }
 
-fn coordinate(rt: &impl Print, v: i16) -> io::Result<()> {
-    print::signed(rt, v as i32)
-}
-
-fn tap(rt: &impl Print, t: Tap) -> io::Result<()> {
-    coordinate(rt, t.x)?;
-    coordinate(rt, t.y)
-}
-
-// Two taps, and where they should have been.
-fn of_two(rt: &impl Print, a: Aim, b: Aim) -> io::Result<()> {
-    print::word(rt, b"fit,")?;
-    tap(rt, a.raw)?;
-    tap(rt, b.raw)?;
-    print::word(rt, b" onto")?;
-    tap(rt, a.tgt)?;
-    tap(rt, b.tgt)?;
-    let mut pairs = [a; 64];
-    pairs[1] = b;
-    fit(rt, pairs, 2)
-}
-
-fn of_three(rt: &impl Print, a: Aim, b: Aim, c: Aim) -> io::Result<()> {
-    print::word(rt, b"fit,")?;
-    tap(rt, a.raw)?;
-    tap(rt, b.raw)?;
-    tap(rt, c.raw)?;
-    print::word(rt, b" onto")?;
-    tap(rt, a.tgt)?;
-    tap(rt, b.tgt)?;
-    tap(rt, c.tgt)?;
-    let mut pairs = [a; 64];
-    pairs[1] = b;
-    pairs[2] = c;
-    fit(rt, pairs, 3)
+// Few taps, and where they should have been.
+fn of_few(rt: &impl Print, aims: &[Aim]) -> io::Result<()> {
+    print!(rt; "fit,")?;
+    for a in aims {
+        print!(rt; " {}", Shown(a.raw))?;
+    }
+    print!(rt; " onto")?;
+    for a in aims {
+        print!(rt; " {}", Shown(a.tgt))?;
+    }
+    let mut pairs = [corner(0, 0, 0, 0); MAX_TAPS];
+    for (pair, a) in pairs.iter_mut().zip(aims) {
+        *pair = *a;
+    }
+    println!(rt; " -> {}", fit(pairs, aims.len()))
 }
 
 // The taps (0, 0), (2, 0) and (0, 2), and where these should have been.
 fn spread(rt: &impl Print, u0: i16, v0: i16, u1: i16, v1: i16, u2: i16, v2: i16) -> io::Result<()> {
-    of_three(
+    of_few(
         rt,
-        corner(0, 0, u0, v0),
-        corner(2, 0, u1, v1),
-        corner(0, 2, u2, v2),
+        &[
+            corner(0, 0, u0, v0),
+            corner(2, 0, u1, v1),
+            corner(0, 2, u2, v2),
+        ],
     )
 }
 
@@ -208,30 +147,22 @@ fn spread(rt: &impl Print, u0: i16, v0: i16, u1: i16, v1: i16, u2: i16, v2: i16)
 // x, along y. Then a coefficient beyond its steps, a to f, the targets one short of it in front of the first and the
 // third; and where several are, b and d, e and f, all six, the first of them.
 pub(crate) fn unfits(rt: &impl Print) -> io::Result<()> {
-    of_two(rt, corner(0, 0, 0, 0), corner(2, 0, 2, 0))?;
-    of_three(
+    of_few(rt, &[corner(0, 0, 0, 0), corner(2, 0, 2, 0)])?;
+    of_few(
         rt,
-        corner(0, 0, 0, 0),
-        corner(1, 1, 1, 1),
-        corner(2, 2, 2, 2),
+        &[corner(0, 0, 0, 0), corner(1, 1, 1, 1), corner(2, 2, 2, 2)],
     )?;
-    of_three(
+    of_few(
         rt,
-        corner(0, 0, 0, 0),
-        corner(1, 0, 1, 0),
-        corner(0, 1, 0, 1),
+        &[corner(0, 0, 0, 0), corner(1, 0, 1, 0), corner(0, 1, 0, 1)],
     )?;
-    of_three(
+    of_few(
         rt,
-        corner(0, 0, 0, 0),
-        corner(1, 0, 1, 0),
-        corner(0, 2, 0, 2),
+        &[corner(0, 0, 0, 0), corner(1, 0, 1, 0), corner(0, 2, 0, 2)],
     )?;
-    of_three(
+    of_few(
         rt,
-        corner(0, 0, 0, 0),
-        corner(2, 0, 2, 0),
-        corner(0, 1, 0, 1),
+        &[corner(0, 0, 0, 0), corner(2, 0, 2, 0), corner(0, 1, 0, 1)],
     )?;
     spread(rt, -30517, 0, 30520, 0, -30517, 2)?;
     spread(rt, -30517, 0, 30521, 0, -30517, 2)?;
@@ -248,31 +179,37 @@ pub(crate) fn unfits(rt: &impl Print) -> io::Result<()> {
 
 // Three taps that are nearly on one line, up and down. All targets are (0, 0) but that of the tap between.
 fn upright(rt: &impl Print, u: i16, v: i16) -> io::Result<()> {
-    of_three(
+    of_few(
         rt,
-        corner(-1, 19, 0, 0),
-        corner(0, 0, u, v),
-        corner(1, -17, 0, 0),
+        &[
+            corner(-1, 19, 0, 0),
+            corner(0, 0, u, v),
+            corner(1, -17, 0, 0),
+        ],
     )
 }
 
 // The same across.
 fn level(rt: &impl Print, u: i16, v: i16) -> io::Result<()> {
-    of_three(
+    of_few(
         rt,
-        corner(19, -1, 0, 0),
-        corner(0, 0, u, v),
-        corner(-17, 1, 0, 0),
+        &[
+            corner(19, -1, 0, 0),
+            corner(0, 0, u, v),
+            corner(-17, 1, 0, 0),
+        ],
     )
 }
 
 // The same up and down, away from (0, 0).
 fn aside(rt: &impl Print, u: i16, v: i16) -> io::Result<()> {
-    of_three(
+    of_few(
         rt,
-        corner(25, -9, 0, 0),
-        corner(26, 0, u, v),
-        corner(27, 8, 0, 0),
+        &[
+            corner(25, -9, 0, 0),
+            corner(26, 0, u, v),
+            corner(27, 8, 0, 0),
+        ],
     )
 }
 

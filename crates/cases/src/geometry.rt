@@ -1,34 +1,25 @@
 // Panel geometry: the edges of the panel, the larger of two differences, means rounded down, and both
 // sides of each line that document 01 draws for the axis.
-use crate::print;
-use panel::{AxisLock, CentroidAnswer, DistAnswer, LockAnswer, Point};
+use crate::print::{Shown, Told, at};
+use panel::{MAX_POINTS, Point};
 use std::io;
 
-fn at(x: u16, y: u16) -> Point {
-    Point { x, y }
-}
-
-fn measured(rt: &impl Print, a: DistAnswer) -> io::Result<()> {
-    print::gives(rt)?;
-    match a {
-        DistAnswer::Answered(d) => print::number(rt, d as u64)?,
-        DistAnswer::Refused(r) => print::refusal(rt, r)?,
-    }
-    print::end(rt)
-}
-
 fn dist(rt: &impl Print, p: Point, q: Point) -> io::Result<()> {
-    print::word(rt, b"dist")?;
-    print::point(rt, p)?;
-    print::point(rt, q)?;
-    measured(rt, panel::dist(p, q))
+    println!(rt;
+        "dist {} {} -> {}",
+        Shown(p),
+        Shown(q),
+        Told(panel::dist(p, q))
+    )
 }
 
 fn dist2(rt: &impl Print, p: Point, q: Point) -> io::Result<()> {
-    print::word(rt, b"dist2")?;
-    print::point(rt, p)?;
-    print::point(rt, q)?;
-    measured(rt, panel::dist2(p, q))
+    println!(rt;
+        "dist2 {} {} -> {}",
+        Shown(p),
+        Shown(q),
+        Told(panel::dist2(p, q))
+    )
 }
 
 pub(crate) fn distances(rt: &impl Print) -> io::Result<()> {
@@ -45,20 +36,12 @@ pub(crate) fn distances(rt: &impl Print) -> io::Result<()> {
     dist2(rt, at(0, 0), at(480, 0))
 }
 
-fn centroid(rt: &impl Print, count: u8, pts: [Point; 5]) -> io::Result<()> {
-    print::word(rt, b"centroid")?;
-    print::number(rt, count as u64)?;
-    print::point(rt, pts[0])?;
-    print::point(rt, pts[1])?;
-    print::point(rt, pts[2])?;
-    print::point(rt, pts[3])?;
-    print::point(rt, pts[4])?;
-    print::gives(rt)?;
-    match panel::centroid(count, pts) {
-        CentroidAnswer::Answered(p) => print::point(rt, p)?,
-        CentroidAnswer::Refused(r) => print::refusal(rt, r)?,
+fn centroid(rt: &impl Print, count: u8, pts: [Point; MAX_POINTS]) -> io::Result<()> {
+    print!(rt; "centroid {count}")?;
+    for p in &pts {
+        print!(rt; " {}", Shown(*p))?;
     }
-    print::end(rt)
+    println!(rt; " -> {}", Told(panel::centroid(count, pts).map(Shown)))
 }
 
 pub(crate) fn centroids(rt: &impl Print) -> io::Result<()> {
@@ -75,23 +58,11 @@ pub(crate) fn centroids(rt: &impl Print) -> io::Result<()> {
     centroid(rt, 0, odd)
 }
 
-fn locked(rt: &impl Print, lock: AxisLock) -> io::Result<()> {
-    match lock {
-        AxisLock::Free => print::name(rt, print::NONE),
-        AxisLock::On(axis) => print::axis(rt, axis),
-    }
-}
-
 fn lock_axis(rt: &impl Print, dx: i32, dy: i32) -> io::Result<()> {
-    print::word(rt, b"lock_axis")?;
-    print::signed(rt, dx)?;
-    print::signed(rt, dy)?;
-    print::gives(rt)?;
-    match panel::lock_axis(dx, dy) {
-        LockAnswer::Answered(lock) => locked(rt, lock)?,
-        LockAnswer::Refused(r) => print::refusal(rt, r)?,
-    }
-    print::end(rt)
+    println!(rt;
+        "lock_axis {dx} {dy} -> {}",
+        Told(panel::lock_axis(dx, dy).map(Shown))
+    )
 }
 
 pub(crate) fn axes(rt: &impl Print) -> io::Result<()> {

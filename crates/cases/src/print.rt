@@ -1,98 +1,123 @@
-// The pieces of a printed line.
+// Values as they are printed, in the words of this program: the probe has others, as Ok for Pass. And a point, as it is
+// written in a case.
+use calmap::{Cal, Tap, Tenths, Verdict};
+use gesture::Gesture;
 use panel::{Axis, Point, Refusal};
-use std::io;
+use std::fmt;
+use std::fmt::Display;
+use touchcal::Fit;
 
-// The places of the names, see `name`.
-pub(crate) const NONE: u8 = 0;
-
-const H: u8 = 1;
-
-const V: u8 = 2;
-
-pub(crate) const PASS: u8 = 3;
-
-pub(crate) const SCALE: u8 = 4;
-
-pub(crate) const SHIFT: u8 = 5;
-
-pub(crate) const RESID: u8 = 6;
-
-pub(crate) fn word(rt: &impl Print, text: &[u8]) -> io::Result<()> {
-    rt.write_all(text)
+pub(crate) fn at(x: u16, y: u16) -> Point {
+    Point { x, y }
 }
 
-pub(crate) fn number(rt: &impl Print, n: u64) -> io::Result<()> {
-    print!(rt; " {n}")
-}
+// What a call answers: a value, or why it was refused.
+#[derive(Clone, Copy)]
+pub(crate) struct Told<T>(pub Result<T, Refusal>);
 
-pub(crate) fn byte(rt: &impl Print, b: u8) -> io::Result<()> {
-    number(rt, b as u64)
-}
-
-pub(crate) fn signed(rt: &impl Print, v: i32) -> io::Result<()> {
-    print!(rt; " {v}")
-}
-
-pub(crate) fn point(rt: &impl Print, p: Point) -> io::Result<()> {
-    number(rt, p.x as u64)?;
-    number(rt, p.y as u64)
-}
-
-// A refusal, by its number.
-pub(crate) fn refusal(rt: &impl Print, r: Refusal) -> io::Result<()> {
-    refused(rt, panel::number(r))
-}
-
-pub(crate) fn refused(rt: &impl Print, refusal: u8) -> io::Result<()> {
-    word(rt, b" refused")?;
-    byte(rt, refusal)
-}
-
-pub(crate) fn gives(rt: &impl Print) -> io::Result<()> {
-    word(rt, b" ->")
-}
-
-pub(crate) fn end(rt: &impl Print) -> io::Result<()> {
-    word(rt, b"\n")
-}
-
-// A letter of the names, if it is of that name.
-fn of_name(rt: &impl Print, b: u8, k: u8, name: u8) -> io::Result<()> {
-    if k == name {
-        word(rt, &[b])?;
-    }
-    Ok(())
-}
-
-// The place of the name of that letter, from that of the letter before it.
-fn place(b: u8, k: u8) -> u8 {
-    if b == b' ' {
-        if k < 255 {
-            return k + 1;
+impl<T: Display + Copy> Display for Told<T> {
+    fn fmt<W: fmt::Write>(&self, f: &mut fmt::Formatter<W>) -> fmt::Result {
+        match self.0 {
+            Ok(v) => write!(f, "{v}"),
+            Err(why) => {
+                let number = u8::from(why);
+                write!(f, "refused {number}")
+            }
         }
-        return 0;
     }
-    k
 }
 
-// Prints the name at that place, behind a space. The names stand in one list: a branch for each of them with its own
-// bytes is dear to prove.
-pub(crate) fn name(rt: &impl Print, name: u8) -> io::Result<()> {
-    let all = b" - H V Pass Scale Shift Resid";
-    let mut k = 255;
-    let mut i = 0;
-    while i < all.len() {
-        let b = all[i];
-        k = place(b, k);
-        of_name(rt, b, k, name)?;
-        i += 1;
+// A value.
+#[derive(Clone, Copy)]
+pub(crate) struct Shown<T>(pub T);
+
+impl Display for Shown<Point> {
+    fn fmt<W: fmt::Write>(&self, f: &mut fmt::Formatter<W>) -> fmt::Result {
+        let p = self.0;
+        write!(f, "{} {}", p.x, p.y)
     }
-    Ok(())
 }
 
-pub(crate) fn axis(rt: &impl Print, a: Axis) -> io::Result<()> {
-    match a {
-        Axis::H => name(rt, H),
-        Axis::V => name(rt, V),
+impl Display for Shown<Tap> {
+    fn fmt<W: fmt::Write>(&self, f: &mut fmt::Formatter<W>) -> fmt::Result {
+        let p = self.0;
+        write!(f, "{} {}", p.x, p.y)
+    }
+}
+
+impl Display for Shown<Axis> {
+    fn fmt<W: fmt::Write>(&self, f: &mut fmt::Formatter<W>) -> fmt::Result {
+        f.write_str(match self.0 {
+            Axis::H => "H",
+            Axis::V => "V",
+        })
+    }
+}
+
+impl Display for Shown<Tenths> {
+    fn fmt<W: fmt::Write>(&self, f: &mut fmt::Formatter<W>) -> fmt::Result {
+        let n = self.0.0;
+        write!(f, "{n}")
+    }
+}
+
+impl Display for Shown<Verdict> {
+    fn fmt<W: fmt::Write>(&self, f: &mut fmt::Formatter<W>) -> fmt::Result {
+        f.write_str(match self.0 {
+            Verdict::Pass => "Pass",
+            Verdict::Scale => "Scale",
+            Verdict::Shift => "Shift",
+            Verdict::Resid => "Resid",
+        })
+    }
+}
+
+impl Display for Shown<Cal> {
+    fn fmt<W: fmt::Write>(&self, f: &mut fmt::Formatter<W>) -> fmt::Result {
+        let c = self.0;
+        write!(
+            f,
+            "{} {} {} {} {} {}",
+            c.c0.0, c.c1.0, c.c2.0, c.c3.0, c.c4.0, c.c5.0
+        )
+    }
+}
+
+impl Display for Shown<Fit> {
+    fn fmt<W: fmt::Write>(&self, f: &mut fmt::Formatter<W>) -> fmt::Result {
+        let fit = self.0;
+        write!(
+            f,
+            "{} {} {} {} {}",
+            Shown(fit.cal),
+            fit.mean.0,
+            fit.max.0,
+            fit.before.0,
+            Shown(fit.verdict)
+        )
+    }
+}
+
+// Its words, of which each has a space before it and the first is printed without.
+impl Display for Shown<Gesture> {
+    fn fmt<W: fmt::Write>(&self, f: &mut fmt::Formatter<W>) -> fmt::Result {
+        let words = text::gesture_text(self.0);
+        for b in words.bytes[..words.n].iter().skip(1) {
+            f.write_char(char::from(*b))?;
+        }
+        Ok(())
+    }
+}
+
+// `-` where there is none.
+impl<T: Copy> Display for Shown<Option<T>>
+where
+    Shown<T>: Display,
+{
+    fn fmt<W: fmt::Write>(&self, f: &mut fmt::Formatter<W>) -> fmt::Result {
+        match self.0 {
+            None => f.write_str("-"),
+            Some(v) => write!(f, "{}", Shown(v)),
+        }
     }
 }

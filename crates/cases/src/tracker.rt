@@ -1,50 +1,14 @@
 // The tracker: the trace of document 01, both sides of a swipe's time, and the inputs that tell the rules from
 // "readings that look right". Each call prints its time and what it gives, `-` for nothing.
-use crate::print;
-use gesture::{Answer, Gesture, Given, Tracker};
+use crate::print::{Shown, Told, at};
+use gesture::{Answer, Tracker};
 use panel::{Event, Point};
 use std::io;
 
-fn at(x: u16, y: u16) -> Point {
-    Point { x, y }
-}
-
-// Its words, a space before each.
-fn gesture(rt: &impl Print, g: Gesture) -> io::Result<()> {
-    let t = text::gesture_text(g);
-    let bytes = t.bytes;
-    print::word(rt, &bytes[..t.n])
-}
-
-fn given(rt: &impl Print, g: Given) -> io::Result<()> {
-    match g {
-        Given::Nothing => print::name(rt, print::NONE),
-        Given::Gave(g) => gesture(rt, g),
-    }
-}
-
-// What a call gave.
-fn gave(rt: &impl Print, refusal: u8, g: Given) -> io::Result<()> {
-    print::gives(rt)?;
-    if refusal == 0 {
-        given(rt, g)?;
-    } else {
-        print::refused(rt, refusal)?;
-    }
-    print::end(rt)
-}
-
-// A call's tracker goes on.
+// What a call gave. Its tracker goes on.
 fn after(rt: &impl Print, a: Answer) -> io::Result<Tracker> {
-    let g = a.gesture;
-    gave(rt, a.refusal, g)?;
-    let t = a.tracker;
-    Ok(t)
-}
-
-fn called(rt: &impl Print, call: &[u8], now: u64) -> io::Result<()> {
-    print::word(rt, call)?;
-    print::number(rt, now)
+    println!(rt; " -> {}", Told(a.told.map(|r| Shown(r.gesture))))?;
+    Ok(a.tracker)
 }
 
 fn report(
@@ -56,7 +20,7 @@ fn report(
     p: Point,
     q: Point,
 ) -> io::Result<Tracker> {
-    called(rt, b"report", now)?;
+    print!(rt; "report {now}")?;
     let o = at(0, 0);
     let ev = Event {
         points: count,
@@ -80,28 +44,23 @@ fn two(rt: &impl Print, t: Tracker, now: u64, p: Point, q: Point) -> io::Result<
 }
 
 fn tick(rt: &impl Print, t: Tracker, now: u64) -> io::Result<Tracker> {
-    called(rt, b"tick", now)?;
+    print!(rt; "tick {now}")?;
     after(rt, gesture::tick(t, now))
 }
 
 fn capture(rt: &impl Print, t: Tracker) -> io::Result<Tracker> {
-    print::word(rt, b"capture")?;
+    print!(rt; "capture")?;
     after(rt, gesture::capture(t))
 }
 
 fn wish(rt: &impl Print, t: Tracker) -> io::Result<Tracker> {
-    print::word(rt, b"raw_next")?;
+    print!(rt; "raw_next")?;
     after(rt, gesture::raw_next(t, true))
-}
-
-fn title(rt: &impl Print, text: &[u8]) -> io::Result<()> {
-    print::word(rt, text)?;
-    print::end(rt)
 }
 
 // The calls of document 01's trace.
 pub(crate) fn trace(rt: &impl Print) -> io::Result<()> {
-    title(rt, b"the trace of document 01")?;
+    println!(rt; "the trace of document 01")?;
     let mut t = one(rt, gesture::fresh(), 0, 100, 50)?;
     t = one(rt, t, 10, 115, 50)?;
     t = one(rt, t, 20, 116, 50)?;
@@ -124,14 +83,14 @@ fn swipe(rt: &impl Print, up: u64) -> io::Result<()> {
 
 // "Swipe at 800 ms, none at 801."
 pub(crate) fn swipes(rt: &impl Print) -> io::Result<()> {
-    title(rt, b"a swipe's time")?;
+    println!(rt; "a swipe's time")?;
     swipe(rt, 800)?;
     swipe(rt, 801)
 }
 
 // "Straight-line distance for the slop": (12, 12) is 17 away on the straight line, and no move.
 pub(crate) fn slop(rt: &impl Print) -> io::Result<()> {
-    title(rt, b"no straight line for the slop")?;
+    println!(rt; "no straight line for the slop")?;
     let mut t = one(rt, gesture::fresh(), 0, 100, 50)?;
     t = one(rt, t, 10, 112, 62)?;
     tick(rt, t, 700)?;
@@ -140,7 +99,7 @@ pub(crate) fn slop(rt: &impl Print) -> io::Result<()> {
 
 // "A captured touch denied LongPress."
 pub(crate) fn captured(rt: &impl Print) -> io::Result<()> {
-    title(rt, b"a captured touch has its LongPress")?;
+    println!(rt; "a captured touch has its LongPress")?;
     let mut t = one(rt, gesture::fresh(), 0, 100, 50)?;
     t = capture(rt, t)?;
     t = tick(rt, t, 700)?;
@@ -150,13 +109,13 @@ pub(crate) fn captured(rt: &impl Print) -> io::Result<()> {
 
 // "Keeping the raw wish when nothing is touched."
 pub(crate) fn wished(rt: &impl Print) -> io::Result<()> {
-    title(rt, b"the raw wish is used up where nothing is touched")?;
+    println!(rt; "the raw wish is used up where nothing is touched")?;
     let mut t = wish(rt, gesture::fresh())?;
     t = capture(rt, t)?;
     t = one(rt, t, 0, 100, 50)?;
     t = capture(rt, t)?;
     t = one(rt, t, 10, 120, 50)?;
-    title(rt, b"and kept for the touch it is meant for")?;
+    println!(rt; "and kept for the touch it is meant for")?;
     t = none(rt, t, 20)?;
     t = one(rt, t, 30, 100, 50)?;
     t = wish(rt, t)?;
@@ -167,7 +126,7 @@ pub(crate) fn wished(rt: &impl Print) -> io::Result<()> {
 
 // "Reading fingers of a spent report."
 pub(crate) fn spent(rt: &impl Print) -> io::Result<()> {
-    title(rt, b"a spent report's fingers")?;
+    println!(rt; "a spent report's fingers")?;
     let mut t = one(rt, gesture::fresh(), 0, 100, 50)?;
     t = report(rt, t, 10, 2, 1, at(100, 50), at(200, 50))?;
     report(rt, t, 20, 0, 1, at(0, 0), at(0, 0))?;
@@ -176,7 +135,7 @@ pub(crate) fn spent(rt: &impl Print) -> io::Result<()> {
 
 // A point off the panel, also where a key changed.
 pub(crate) fn refused(rt: &impl Print) -> io::Result<()> {
-    title(rt, b"a point off the panel")?;
+    println!(rt; "a point off the panel")?;
     let mut t = one(rt, gesture::fresh(), 0, 480, 0)?;
     t = report(rt, t, 10, 1, 1, at(0, 320), at(0, 0))?;
     tick(rt, t, 20)?;

@@ -1,67 +1,36 @@
 // The trace's writer at the end of its room: a tick at 300 takes three bytes. Each line has the room's bytes after
 // the call, all 7 before it.
-use crate::print;
-use gesture::{Call, CallKind};
-use numbers::WriteAnswer;
-use panel::{Event, MAX_POINTS, Point};
+use crate::print::Told;
+use gesture::Call;
+use panel::Refusal;
 use std::io;
 
-fn tick() -> Call {
-    Call {
-        kind: CallKind::Tick(300),
-        event: Event {
-            points: 0,
-            p: Point { x: 0, y: 0 },
-            pts: [Point { x: 0, y: 0 }; MAX_POINTS],
-            keys: 0,
-        },
+// What the call on a room answered, and the room.
+fn after(rt: &impl Print, told: Result<usize, Refusal>, room: &[u8]) -> io::Result<()> {
+    print!(rt; " -> {},", Told(told))?;
+    for b in room {
+        print!(rt; " {b}")?;
     }
+    println!(rt; "")
 }
 
-fn answer(rt: &impl Print, a: WriteAnswer) -> io::Result<()> {
-    print::gives(rt)?;
-    match a {
-        WriteAnswer::Answered(to) => print::number(rt, to as u64)?,
-        WriteAnswer::Refused(why) => print::refusal(rt, why)?,
-    }
-    print::word(rt, b",")
-}
-
-fn short(rt: &impl Print) -> io::Result<()> {
-    let mut room = [7u8; 2];
-    let a = trace::put_record(&mut room, 0, tick());
-    print::word(rt, b"put_record tick 300, 2 bytes")?;
-    answer(rt, a)?;
-    print::byte(rt, room[0])?;
-    print::byte(rt, room[1])?;
-    print::end(rt)
-}
-
-fn ample(rt: &impl Print) -> io::Result<()> {
-    let mut room = [7u8; 4];
-    let a = trace::put_record(&mut room, 0, tick());
-    print::word(rt, b"put_record tick 300, 4 bytes")?;
-    answer(rt, a)?;
-    print::byte(rt, room[0])?;
-    print::byte(rt, room[1])?;
-    print::byte(rt, room[2])?;
-    print::byte(rt, room[3])?;
-    print::end(rt)
+fn put_tick(rt: &impl Print, room: &mut [u8]) -> io::Result<()> {
+    let told = trace::put_record(room, 0, Call::Tick(300));
+    let size = room.len();
+    print!(rt; "put_record tick 300, {size} bytes")?;
+    after(rt, told, room)
 }
 
 // The version behind the end of the room.
-fn behind(rt: &impl Print) -> io::Result<()> {
+fn put_head(rt: &impl Print) -> io::Result<()> {
     let mut room = [7u8; 2];
-    let a = trace::put_head(&mut room, 2);
-    print::word(rt, b"put_head at 2, 2 bytes")?;
-    answer(rt, a)?;
-    print::byte(rt, room[0])?;
-    print::byte(rt, room[1])?;
-    print::end(rt)
+    let told = trace::put_head(&mut room, 2);
+    print!(rt; "put_head at 2, 2 bytes")?;
+    after(rt, told, &room)
 }
 
 pub(crate) fn rooms(rt: &impl Print) -> io::Result<()> {
-    short(rt)?;
-    ample(rt)?;
-    behind(rt)
+    put_tick(rt, &mut [7; 2])?;
+    put_tick(rt, &mut [7; 4])?;
+    put_head(rt)
 }

@@ -1,5 +1,6 @@
 -- What the rules keep: a one-finger touch, a pair and a touch of several that are as the state rule wants them stay so.
 -- The crate gesture cites these for its law that every call keeps the state rule. Assumes nothing.
+use Rattle.std.specs.Prelude.{Option, Some, None}
 use mathlib.Core.Path.{◌≡◌, refl}
 use mathlib.Core.Bool.{Bool, true, false, not}
 use Prim.Native.Nat.{ℕ, ◌-◌, ◌≤◌, ◌<◌}
@@ -11,8 +12,6 @@ use Rattle.panel.specs.Points.{on_panel}
 use Rattle.panel.specs.declared.points.Point.{Point}
 use Rattle.panel.specs.declared.axes.Axis.{Axis}
 use Rattle.panel.specs.declared.axes.Axis.TheVariants.{H, «V»}
-use Rattle.panel.specs.declared.axes.AxisLock.{AxisLock}
-use Rattle.panel.specs.declared.axes.AxisLock.TheVariants.{Free, On}
 use Rattle.panel.proofs.Follow.{if-all}
 use Rattle.panel.proofs.Laws.{on-panel-x, on-panel-y, difference-at-most, distance-on-panel}
 use Rattle.fingers.specs.Fields.{reset, set_grabbed, set_long_sent, set_axis, untaken, set_captured, set_direct}
@@ -24,8 +23,6 @@ use Rattle.fingers.specs.declared.one.One.{One}
 use Rattle.fingers.specs.declared.one.App.{App}
 use Rattle.fingers.specs.declared.one.OneStep.{OneStep}
 use Rattle.fingers.specs.declared.pair.Pair.{Pair}
-use Rattle.fingers.specs.declared.pair.Pairing.{Pairing}
-use Rattle.fingers.specs.declared.pair.Pairing.TheVariants.{Unpaired, Paired}
 use Rattle.fingers.specs.declared.settings.Settings.{Settings}
 use Rattle.fingers.specs.declared.several.Multi.{Multi}
 use Rattle.fingers.specs.declared.several.MultiStep.{MultiStep}
@@ -46,10 +43,10 @@ tracked-fine : (o : One) (hold away : ℕ) (p : Point) → FineOne o → on_pane
 unfolding tracked
 tracked-fine o hold away p h on near = let f = h.1 in (on, omega arith)
 
-drag-fine : (a : AxisLock) (o : One) (start p : Point) → FineOne o → FineStep (drag_along a o start p)
+drag-fine : (a : Option Axis) (o : One) (start p : Point) → FineOne o → FineStep (drag_along a o start p)
 unfolding drag_along set_axis
-drag-fine (On a) o start p h = h
-drag-fine Free o start p h = h
+drag-fine (Some a) o start p h = h
+drag-fine None o start p h = h
 
 moving-fine : (o : One) (raw : Bool) (hold : ℕ) (prev start p : Point) → FineOne o → FineStep (moving o raw hold prev start p)
 unfolding moving
@@ -94,9 +91,9 @@ direct-fine a = or_right (not a.raw)
 abbrev pub FinePair : Pair → Type 0
 FinePair r = (on_panel r.a ≡ true) × (on_panel r.b ≡ true) × (on_panel r.c0 ≡ true) × (r.span0 < width) × (r.state ≤ no_pinch)
 
-abbrev pub FinePairing : Pairing → Type 0
-FinePairing Unpaired = Unit {0}
-FinePairing (Paired r) = FinePair r
+abbrev pub FinePairing : Option Pair → Type 0
+FinePairing None = Unit {0}
+FinePairing (Some r) = FinePair r
 
 span-fine : (a : Axis) (p q : Point) → on_panel p ≡ true → on_panel q ≡ true → span_along a p q < width
 unfolding span_along
@@ -160,17 +157,17 @@ module _ (n : ℕ) (c : Point) (now : ℕ) (least : 2 ≤ n) (most : n ≤ max_p
   unfolding pinch_end_or_seen
   end-fine r m h k = if-all FineMultiStep _ (grown-fine m h, not-fine r k) (seen-fine m h, not-fine r k)
 
-  pub three-fine : (pair : Pairing) (m : Multi) → FineMulti m → FinePairing pair → FineMultiStep (three_fingers pair m n c now)
+  pub three-fine : (pair : Option Pair) (m : Multi) → FineMulti m → FinePairing pair → FineMultiStep (three_fingers pair m n c now)
   unfolding three_fingers
-  three-fine Unpaired m h k = (seen-fine m h, tt)
-  three-fine (Paired r) m h k = end-fine r m h k
+  three-fine None m h k = (seen-fine m h, tt)
+  three-fine (Some r) m h k = end-fine r m h k
 
 module _ (p q c : Point) (now : ℕ) (hp : on_panel p ≡ true) (hq : on_panel q ≡ true) (hc : on_panel c ≡ true) where
   pinch-fine : (r : Pair) (m : Multi) → FineMulti m → FinePair r → FineMultiStep (pinch_or_seen r m c now)
   unfolding pinch_or_seen
   pinch-fine r m h k = if-all FineMultiStep _ (h, k) (seen-fine 2 c now (omega arith) (omega arith) hc m h, k)
 
-  pub two-fine : (pair : Pairing) (m : Multi) → FineMulti m → FinePairing pair → FineMultiStep (two_fingers pair m p q c now)
+  pub two-fine : (pair : Option Pair) (m : Multi) → FineMulti m → FinePairing pair → FineMultiStep (two_fingers pair m p q c now)
   unfolding two_fingers
-  two-fine Unpaired m h k = (seen-fine 2 c now (omega arith) (omega arith) hc m h, new-fine p q c hp hq hc)
-  two-fine (Paired r) m h k = pinch-fine (pair_next r p q c) m h (next-fine r p q c k hp hq)
+  two-fine None m h k = (seen-fine 2 c now (omega arith) (omega arith) hc m h, new-fine p q c hp hq hc)
+  two-fine (Some r) m h k = pinch-fine (pair_next r p q c) m h (next-fine r p q c k hp hq)

@@ -1,5 +1,6 @@
 -- The masks key by key: what it is to be in one mask and not in another, and what a flipped bit leaves. A key is in a mask
 -- where its bit is 1. Assumes nothing.
+use Rattle.std.specs.Prelude.{None}
 use mathlib.Core.Path.{◌≡◌, refl, subst, ◌∙◌, ap}
 use mathlib.Core.Bool.{Bool, true, false}
 use Prim.Native.Nat.{ℕ, zero, suc, ◌+◌, ◌-◌, ◌*◌, ◌/◌, ◌%◌, ◌^◌, ◌≤◌, ◌<◌, min}
@@ -9,7 +10,6 @@ use lib.Bits.{bit_and, bit_xor, differ, and_shr, xor_shr, and_step, xor_step}
 use lib.Dec.{eqb, eqb→eq}
 use Rattle.panel.specs.Tests.{when◌then◌else◌}
 use Rattle.fingers.specs.Keys.{key_count, all_keys, without, flipped, key_step}
-use Rattle.fingers.specs.declared.keys.KeyStep.TheVariants.{Same}
 use Rattle.fingers.proofs.Bytes.{every, below}
 
 abbrev pub bit_at : ℕ → ℕ → ℕ
@@ -93,6 +93,6 @@ pub none-new : (mask : ℕ) → mask < 256 → without mask mask ≡ 0
 unfolding without
 none-new mask h = eqb→eq (without mask mask) 0 (below (λ (m : ℕ). eqb (without m m) 0) 256 tt mask h)
 
-pub same-masks : (keys want : ℕ) → keys < 256 → keys ≡ want → key_step keys want ≡ Same
+pub same-masks : (keys want : ℕ) → keys < 256 → keys ≡ want → key_step keys want ≡ None
 unfolding key_step when◌then◌else◌
-same-masks keys want h e = subst (λ (w : ℕ). key_step keys w ≡ Same) e (rw (none-new keys h) refl)
+same-masks keys want h e = subst (λ (w : ℕ). key_step keys w ≡ None) e (rw (none-new keys h) refl)

@@ -1,4 +1,5 @@
 -- Each public contract leaves no second answer. Assumes nothing.
+use Rattle.std.specs.Prelude.{Option}
 use mathlib.Core.Path.{◌≡◌}
 use mathlib.Core.Bool.{Bool}
 use Prim.Native.Nat.{ℕ, ◌-◌}
@@ -13,17 +14,16 @@ use Rattle.fingers.specs.Releases.{release_of}
 use Rattle.fingers.specs.Pairs.{new_pair}
 use Rattle.fingers.specs.Several.{multi_from, two_fingers, three_fingers, multi_end}
 use Rattle.fingers.specs.declared.gestures.Outcome.{Outcome}
-use Rattle.fingers.specs.declared.keys.KeyStep.{KeyStep}
+use Rattle.fingers.specs.declared.gestures.Gesture.{Gesture}
 use Rattle.fingers.specs.declared.one.One.{One}
 use Rattle.fingers.specs.declared.one.App.{App}
 use Rattle.fingers.specs.declared.one.OneStep.{OneStep}
 use Rattle.fingers.specs.declared.pair.Pair.{Pair}
-use Rattle.fingers.specs.declared.pair.Pairing.{Pairing}
 use Rattle.fingers.specs.declared.settings.Settings.{Settings}
 use Rattle.fingers.specs.declared.several.Multi.{Multi}
 use Rattle.fingers.specs.declared.several.MultiStep.{MultiStep}
 
-pub key-step-unique : (keys want : ℕ) {r s : KeyStep} → r ≡ key_step keys want → s ≡ key_step keys want → r ≡ s
+pub key-step-unique : (keys want : ℕ) {r s : Option (Gesture × ℕ)} → r ≡ key_step keys want → s ≡ key_step keys want → r ≡ s
 key-step-unique keys want = one_answer
 
 pub elapsed-unique : (now t : ℕ) {r s : ℕ} → r ≡ now - t → s ≡ now - t → r ≡ s
@@ -65,11 +65,11 @@ new-pair-unique p q c = one_answer
 pub multi-from-unique : (n : ℕ) (c : Point) (now : ℕ) {r s : Multi} → r ≡ multi_from n c now → s ≡ multi_from n c now → r ≡ s
 multi-from-unique n c now = one_answer
 
-pub two-fingers-unique : (pair : Pairing) (m : Multi) (p q c : Point) (now : ℕ) {r s : MultiStep} → r ≡ two_fingers pair m p q c now → s ≡ two_fingers pair m p q c now → r ≡ s
+pub two-fingers-unique : (pair : Option Pair) (m : Multi) (p q c : Point) (now : ℕ) {r s : MultiStep} → r ≡ two_fingers pair m p q c now → s ≡ two_fingers pair m p q c now → r ≡ s
 two-fingers-unique pair m p q c now = one_answer
 
-pub three-fingers-unique : (pair : Pairing) (m : Multi) (n : ℕ) (c : Point) (now : ℕ) {r s : MultiStep} → r ≡ three_fingers pair m n c now → s ≡ three_fingers pair m n c now → r ≡ s
+pub three-fingers-unique : (pair : Option Pair) (m : Multi) (n : ℕ) (c : Point) (now : ℕ) {r s : MultiStep} → r ≡ three_fingers pair m n c now → s ≡ three_fingers pair m n c now → r ≡ s
 three-fingers-unique pair m n c now = one_answer
 
-pub multi-end-unique : (m : Multi) (pair : Pairing) {r s : Outcome} → r ≡ multi_end m pair → s ≡ multi_end m pair → r ≡ s
+pub multi-end-unique : (m : Multi) (pair : Option Pair) {r s : Outcome} → r ≡ multi_end m pair → s ≡ multi_end m pair → r ≡ s
 multi-end-unique m pair = one_answer

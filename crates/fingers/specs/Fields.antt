@@ -1,16 +1,15 @@
 -- What is known of a one-finger touch, and what the app made of it. "all touch fields reset" at touch-down; else a rule sets
 -- one or two of them and the others stay.
-use Rattle.std.specs.Prelude.{Bool, true, false}
+use Rattle.std.specs.Prelude.{Bool, true, false, Option, None}
 use Rattle.panel.specs.declared.points.Point.{Point}
-use Rattle.panel.specs.declared.axes.AxisLock.{AxisLock}
-use Rattle.panel.specs.declared.axes.AxisLock.TheVariants.{Free}
 use Rattle.fingers.specs.declared.one.One.{One}
 use Rattle.fingers.specs.declared.one.App.{App}
+use Rattle.panel.specs.declared.axes.Axis.{Axis}
 
 -- What the finger did.
 
 unfoldable pub reset : Point → One
-reset p = record { last = p; moved = false; far = 0; long_sent = false; axis = Free; grabbed = false; early = false }
+reset p = record { last = p; moved = false; far = 0; long_sent = false; axis = None; grabbed = false; early = false }
 
 unfoldable pub set_grabbed : One → One
 set_grabbed o =
@@ -20,7 +19,7 @@ unfoldable pub set_long_sent : One → One
 set_long_sent o =
     record { last = o.last; moved = o.moved; far = o.far; long_sent = true; axis = o.axis; grabbed = o.grabbed; early = o.early }
 
-unfoldable pub set_axis : One → AxisLock → One
+unfoldable pub set_axis : One → Option Axis → One
 set_axis o a =
     record { last = o.last; moved = o.moved; far = o.far; long_sent = o.long_sent; axis = a; grabbed = o.grabbed; early = o.early }
 

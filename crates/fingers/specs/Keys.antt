@@ -2,12 +2,11 @@
 --
 -- "Store its mask as wanted. If reported keys differ: the lowest reported key not wanted gives KeyUp, else the lowest
 -- wanted one KeyDown; that bit flips and the call ends, fingers unread." "Keys: any of eight bits."
-use Rattle.std.specs.Prelude.{ℕ, ◌-◌, ◌^◌}
+use Rattle.std.specs.Prelude.{ℕ, ◌-◌, ◌^◌, Option, Some, None}
 use Rattle.std.specs.Int.Bits.{bit_and, bit_xor}
 use Rattle.std.specs.Int.Count.{count_trailing_zeros}
 use Rattle.panel.specs.Tests.{when◌then◌else◌, ◌<?◌}
-use Rattle.fingers.specs.declared.keys.KeyStep.{KeyStep}
-use Rattle.fingers.specs.declared.keys.KeyStep.TheVariants.{Same, Flipped}
+use Rattle.fingers.specs.declared.gestures.Gesture.{Gesture}
 use Rattle.fingers.specs.declared.gestures.Gesture.TheVariants.{KeyUp, KeyDown}
 
 -- "Keys: any of eight bits."
@@ -28,9 +27,10 @@ lowest mask = count_trailing_zeros key_count mask
 unfoldable pub flipped : ℕ → ℕ → ℕ
 flipped mask key = bit_xor mask (2 ^ key)
 
--- of the mask that gestures told of so far, towards the mask that is wanted
-unfoldable pub key_step : ℕ → ℕ → KeyStep
+-- of the mask that gestures told of so far, towards the mask that is wanted: the gesture, and the mask with that bit
+-- flipped
+unfoldable pub key_step : ℕ → ℕ → Option (Gesture × ℕ)
 key_step keys want =
-    when 0 <? without keys want then Flipped (KeyUp (lowest (without keys want))) (flipped keys (lowest (without keys want)))
-    else when 0 <? without want keys then Flipped (KeyDown (lowest (without want keys))) (flipped keys (lowest (without want keys)))
-    else Same
+    when 0 <? without keys want then Some (KeyUp (lowest (without keys want)), flipped keys (lowest (without keys want)))
+    else when 0 <? without want keys then Some (KeyDown (lowest (without want keys)), flipped keys (lowest (without want keys)))
+    else None

@@ -4,13 +4,11 @@
 -- grabbed. Then Grab if due; then, if raw, Move when the point changed, else nothing. If moved, and grabbed where hold is
 -- on: Drag(start, point, axis) at each report. Axis, kept once found, no Drag before: H if 2|dx| >= 3|dy|; V if 2|dy| >=
 -- 3|dx|; else, over 30, the larger, a tie H."
-use Rattle.std.specs.Prelude.{ℕ, ◌-◌, max, Bool, not}
+use Rattle.std.specs.Prelude.{ℕ, ◌-◌, max, Bool, not, Option, Some, None}
 use Rattle.panel.specs.Tests.{when◌then◌else◌, ◌and◌, ◌or◌, ◌<?◌, ◌=?◌}
 use Rattle.panel.specs.Distances.{difference, distance}
 use Rattle.panel.specs.Axes.{axis_of}
 use Rattle.panel.specs.declared.points.Point.{Point}
-use Rattle.panel.specs.declared.axes.AxisLock.{AxisLock}
-use Rattle.panel.specs.declared.axes.AxisLock.TheVariants.{Free, On}
 use Rattle.fingers.specs.Thresholds.{slop, grab_slop}
 use Rattle.fingers.specs.Fields.{set_grabbed, set_axis}
 use Rattle.fingers.specs.Holds.{step, hold_of, is_on, grab_due}
@@ -21,6 +19,7 @@ use Rattle.fingers.specs.declared.one.One.{One}
 use Rattle.fingers.specs.declared.one.App.{App}
 use Rattle.fingers.specs.declared.one.OneStep.{OneStep}
 use Rattle.fingers.specs.declared.settings.Settings.{Settings}
+use Rattle.panel.specs.declared.axes.Axis.{Axis}
 
 -- "early once over 8 with hold on, not direct, not grabbed": hold is 0, not on, for a direct touch
 unfoldable pub early_now : One → ℕ → ℕ → Bool
@@ -46,14 +45,14 @@ unfoldable pub move_from : Point → Point → Outcome
 move_from prev p = when same_point prev p then Quiet else Gives (Move prev p)
 
 -- kept once found
-unfoldable pub axis_at : AxisLock → Point → Point → AxisLock
-axis_at (On a) start p = On a
-axis_at Free start p = axis_of (difference start.x p.x) (difference start.y p.y)
+unfoldable pub axis_at : Option Axis → Point → Point → Option Axis
+axis_at (Some a) start p = Some a
+axis_at None start p = axis_of (difference start.x p.x) (difference start.y p.y)
 
 -- no Drag before it is found
-unfoldable pub drag_along : AxisLock → One → Point → Point → OneStep
-drag_along (On a) o start p = step (Gives (Drag start p a)) (set_axis o (On a))
-drag_along Free o start p = step Quiet o
+unfoldable pub drag_along : Option Axis → One → Point → Point → OneStep
+drag_along (Some a) o start p = step (Gives (Drag start p a)) (set_axis o (Some a))
+drag_along None o start p = step Quiet o
 
 unfoldable pub may_drag : One → ℕ → Bool
 may_drag o hold = o.moved and (o.grabbed or (hold =? 0))

@@ -7,7 +7,7 @@
 --
 -- "Multi rule: dy at least 60 (n 2) or 30 (n 3), dy > |dx|, at most 2000 ms. Others nothing." "gives PinchEnd(true) if a
 -- pinch, else the multi rule."
-use Rattle.std.specs.Prelude.{ℕ, ◌-◌, Bool, true, false}
+use Rattle.std.specs.Prelude.{ℕ, ◌-◌, Bool, true, false, Option, Some, None}
 use Rattle.panel.specs.Tests.{when◌then◌else◌, ◌and◌, ◌≤?◌, ◌<?◌, ◌=?◌}
 use Rattle.panel.specs.Distances.{difference}
 use Rattle.panel.specs.declared.points.Point.{Point}
@@ -17,12 +17,10 @@ use Rattle.fingers.specs.declared.gestures.Gesture.TheVariants.{MultiSwipeDown, 
 use Rattle.fingers.specs.declared.gestures.Outcome.{Outcome}
 use Rattle.fingers.specs.declared.gestures.Outcome.TheVariants.{Quiet, Gives}
 use Rattle.fingers.specs.declared.pair.Pair.{Pair}
-use Rattle.fingers.specs.declared.pair.Pairing.{Pairing}
-use Rattle.fingers.specs.declared.pair.Pairing.TheVariants.{Unpaired, Paired}
 use Rattle.fingers.specs.declared.several.Multi.{Multi}
 use Rattle.fingers.specs.declared.several.MultiStep.{MultiStep}
 
-abbrev pub multi_step : Outcome → Multi → Pairing → MultiStep
+abbrev pub multi_step : Outcome → Multi → Option Pair → MultiStep
 multi_step out multi pair = record { out = out; multi = multi; pair = pair }
 
 -- n fingers, centroid c: from here
@@ -43,21 +41,21 @@ multi_seen m n c now =
 -- two fingers, with the pair as it is at this report
 unfoldable pub pinch_or_seen : Pair → Multi → Point → ℕ → MultiStep
 pinch_or_seen r m c now =
-    when r.state =? pinching then multi_step (Gives (pinch_of r)) m (Paired r)
-    else multi_step Quiet (multi_seen m 2 c now) (Paired r)
+    when r.state =? pinching then multi_step (Gives (pinch_of r)) m (Some r)
+    else multi_step Quiet (multi_seen m 2 c now) (Some r)
 
-unfoldable pub two_fingers : Pairing → Multi → Point → Point → Point → ℕ → MultiStep
-two_fingers Unpaired m p q c now = multi_step Quiet (multi_seen m 2 c now) (Paired (new_pair p q c))
-two_fingers (Paired r) m p q c now = pinch_or_seen (pair_next r p q c) m c now
+unfoldable pub two_fingers : Option Pair → Multi → Point → Point → Point → ℕ → MultiStep
+two_fingers None m p q c now = multi_step Quiet (multi_seen m 2 c now) (Some (new_pair p q c))
+two_fingers (Some r) m p q c now = pinch_or_seen (pair_next r p q c) m c now
 
 unfoldable pub pinch_end_or_seen : Pair → Multi → ℕ → Point → ℕ → MultiStep
 pinch_end_or_seen r m n c now =
-    when r.state =? pinching then multi_step (Gives (PinchEnd false)) (multi_grown m n c now) (Paired (not_pinch r))
-    else multi_step Quiet (multi_seen m n c now) (Paired (not_pinch r))
+    when r.state =? pinching then multi_step (Gives (PinchEnd false)) (multi_grown m n c now) (Some (not_pinch r))
+    else multi_step Quiet (multi_seen m n c now) (Some (not_pinch r))
 
-unfoldable pub three_fingers : Pairing → Multi → ℕ → Point → ℕ → MultiStep
-three_fingers Unpaired m n c now = multi_step Quiet (multi_seen m n c now) Unpaired
-three_fingers (Paired r) m n c now = pinch_end_or_seen r m n c now
+unfoldable pub three_fingers : Option Pair → Multi → ℕ → Point → ℕ → MultiStep
+three_fingers None m n c now = multi_step Quiet (multi_seen m n c now) None
+three_fingers (Some r) m n c now = pinch_end_or_seen r m n c now
 
 -- The end.
 
@@ -73,9 +71,9 @@ multi_rule m =
     when swiped_down m.n (difference m.c0.x m.c1.x) (m.c1.y - m.c0.y) (m.t1 - m.t0) then Gives (MultiSwipeDown m.n)
     else Quiet
 
-unfoldable pub is_pinch : Pairing → Bool
-is_pinch Unpaired = false
-is_pinch (Paired r) = r.state =? pinching
+unfoldable pub is_pinch : Option Pair → Bool
+is_pinch None = false
+is_pinch (Some r) = r.state =? pinching
 
-unfoldable pub multi_end : Multi → Pairing → Outcome
+unfoldable pub multi_end : Multi → Option Pair → Outcome
 multi_end m pair = when is_pinch pair then Gives (PinchEnd true) else multi_rule m

@@ -32,7 +32,8 @@ pub enum Gesture {
     PinchEnd(bool),
 }
 
-// Why a touch came to nothing, for the log: the note's number and the point that goes with it.
+// Why a touch came to nothing, for the log: the note's number and the point that goes with it. A number and no enum, as
+// in the definition `noted` and in the log's line: the document gives the notes as numbers.
 #[derive(Clone, Copy)]
 pub struct Note {
     pub number: u8,

@@ -1,10 +1,11 @@
 // Holding a finger still: hold-to-grab, and the long press. Both are looked for at a tick, the grab at a
 // report too, since the controller reports jitter as moves and ticks may then not run.
+#![tactic(auto, using(panel::proofs::Follow::follow), unfolding(crate::specs::Holds::hold_of, crate::specs::Holds::grab_due, crate::specs::Holds::long_from, crate::specs::Holds::long_due, crate::specs::Holds::held_still, crate::specs::Fields::set_grabbed, crate::specs::Fields::set_long_sent))]
+
 ghost use Rattle.std.specs.Prelude.{◌≡◌, ◌-◌};
 ghost use Rattle.fingers.specs.Holds.{hold_of, grab_due, long_from, long_due, held_still};
 
 use crate::gestures::{Gesture, Outcome};
-use crate::one;
 use crate::one::{App, One, OneStep};
 use crate::settings::Settings;
 use crate::thresholds::{LONG_HOLD_MS, LONG_MS};
@@ -14,7 +15,7 @@ use panel::Point;
 pub fn elapsed(now: u64, t: u64) -> u64
     ensures { result ≡ now - t }
 {
-    if t <= now { now - t } else { 0 }
+    now.saturating_sub(t)
 }
 
 // The time to hold before a drag, 0 for none.
@@ -28,16 +29,7 @@ pub(crate) fn hold_of(direct: bool, grab: u16) -> u16
 pub(crate) fn grab_due(o: One, hold: u16, held: u64) -> bool
     ensures { result ≡ grab_due o hold held }
 {
-    if hold == 0 {
-        return false;
-    }
-    if o.early {
-        return false;
-    }
-    if o.grabbed {
-        return false;
-    }
-    hold as u64 <= held
+    hold != 0 && !o.early && !o.grabbed && u64::from(hold) <= held
 }
 
 fn long_from(grab: u16) -> u64
@@ -49,34 +41,32 @@ fn long_from(grab: u16) -> u64
 fn long_due(o: One, grab: u16, held: u64) -> bool
     ensures { result ≡ long_due o grab held }
 {
-    if o.moved {
-        return false;
-    }
-    if o.long_sent {
-        return false;
-    }
-    long_from(grab) <= held
+    !o.moved && !o.long_sent && long_from(grab) <= held
 }
 
-// A tick while one finger is down at p0, since t0.
+// A tick while one finger is down at p0, since t0. The two stay apart, here and in `later_report` and `release`: a
+// struct of them would be made at each call of what Touch::Down(p0, t0) holds, and taken apart again at once.
 pub fn held_still(o: One, app: App, p0: Point, t0: u64, now: u64, set: Settings) -> OneStep
     ensures { result ≡ held_still o app p0 t0 now set }
 {
     let held = elapsed(now, t0);
     if grab_due(o, hold_of(app.direct, set.grab_ms), held) {
-        return OneStep {
+        OneStep {
             out: Outcome::Gives(Gesture::Grab(p0)),
-            one: one::with_grab(o),
-        };
-    }
-    if long_due(o, set.grab_ms, held) {
-        return OneStep {
+            one: One { grabbed: true, ..o },
+        }
+    } else if long_due(o, set.grab_ms, held) {
+        OneStep {
             out: Outcome::Gives(Gesture::LongPress(p0)),
-            one: one::with_long(o),
-        };
-    }
-    OneStep {
-        out: Outcome::Quiet,
-        one: o,
+            one: One {
+                long_sent: true,
+                ..o
+            },
+        }
+    } else {
+        OneStep {
+            out: Outcome::Quiet,
+            one: o,
+        }
     }
 }

@@ -1,11 +1,12 @@
 // One finger on the panel: what it did, and what the app made of its touch. Where and when it went down stands in the
 // tracker's touch.
+#![tactic(auto, using(panel::proofs::Follow::follow), unfolding(crate::specs::Fields::reset, crate::specs::Fields::untaken, crate::specs::Fields::set_captured, crate::specs::Fields::set_direct))]
+
 ghost use Rattle.std.specs.Prelude.{◌≡◌};
-ghost use Rattle.panel.specs.declared.axes.AxisLock.TheVariants.{On};
 ghost use Rattle.fingers.specs.Fields as fields;
 
 use crate::gestures::Outcome;
-use panel::{Axis, AxisLock, Point};
+use panel::{Axis, Point};
 
 // What the one finger of a touch did. It outlives the touch: what a capture and the log look at is the last one-finger
 // touch, which several fingers may have followed.
@@ -22,7 +23,7 @@ pub struct One {
     pub grabbed: bool,
     pub moved: bool,
     // Drag axis, once it is found: looked for from the first report that may drag, wherever the finger then is.
-    pub axis: AxisLock,
+    pub axis: Option<Axis>,
 }
 
 // What the app made of the touch. It outlives the touch too.
@@ -51,13 +52,14 @@ pub fn reset(p: Point) -> One
         moved: false,
         far: 0,
         long_sent: false,
-        axis: AxisLock::Free,
+        axis: None,
         grabbed: false,
         early: false,
     }
 }
 
-// A touch that the app has not taken.
+// A touch that the app has not taken. By name and no derived Default: the definitions of a new touch and of a fresh
+// tracker speak of `untaken`.
 pub fn untaken() -> App
     ensures { result ≡ fields.untaken }
 {
@@ -68,37 +70,6 @@ pub fn untaken() -> App
     }
 }
 
-pub(crate) fn with_grab(o: One) -> One
-    ensures { result ≡ fields.set_grabbed o }
-{
-    let mut n = o;
-    n.grabbed = true;
-    n
-}
-
-pub(crate) fn with_long(o: One) -> One
-    ensures { result ≡ fields.set_long_sent o }
-{
-    let mut n = o;
-    n.long_sent = true;
-    n
-}
-
-pub(crate) fn with_axis(o: One, a: Axis) -> One
-    ensures { result ≡ fields.set_axis o (On a) }
-{
-    let last = o.last;
-    One {
-        last,
-        moved: o.moved,
-        far: o.far,
-        long_sent: o.long_sent,
-        axis: AxisLock::On(a),
-        grabbed: o.grabbed,
-        early: o.early,
-    }
-}
-
 // The touch in the app's hands, for raw moves or not.
 pub fn with_capture(app: App, raw: bool) -> App
     ensures { result ≡ fields.set_captured app raw }
@@ -106,7 +77,7 @@ pub fn with_capture(app: App, raw: bool) -> App
     App {
         captured: true,
         raw,
-        direct: app.direct,
+        ..app
     }
 }
 
@@ -116,7 +87,7 @@ pub fn with_direct(app: App) -> App
 {
     App {
         captured: true,
-        raw: app.raw,
         direct: true,
+        ..app
     }
 }

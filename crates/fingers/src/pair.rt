@@ -1,6 +1,8 @@
 // Two fingers as a pair, to tell a pinch. The controller's slot order is not stable: a finger keeps its name
 // by the smaller squared travel between two reports.
-ghost use Rattle.std.specs.Prelude.{◌≡◌, ◌-◌};
+#![tactic(auto, using(panel::proofs::Follow::follow), unfolding(crate::specs::Pairs::span_along, crate::specs::Pairs::pair_axis, crate::specs::Pairs::new_pair, crate::specs::Pairs::keeps_order, crate::specs::Pairs::state_next, crate::specs::Pairs::pair_at, crate::specs::Pairs::pair_next, crate::specs::Pairs::span_told, crate::specs::Pairs::pinch_of, crate::specs::Pairs::not_pinch))]
+
+ghost use Rattle.std.specs.Prelude.{◌≡◌};
 ghost use Rattle.fingers.specs.Pairs.{span_along, pair_axis, new_pair, keeps_order, state_next, pair_at, pair_next, span_told, pinch_of, not_pinch};
 
 use crate::gestures::Gesture;
@@ -15,21 +17,17 @@ pub struct Pair {
     pub axis: Axis,
     pub span0: u16,
     pub c0: Point,
-    // 0 undecided, 1 pinch, 2 not a pinch: a swipe or a third finger.
+    // 0 undecided, 1 pinch, 2 not a pinch: a swipe or a third finger. A number and no enum: document
+    // 01's rule "pair state 0..2" is part of `state_rule`, and by its contract each call on a tracker refuses a 3 with
+    // STATE. Over an enum it could not say so; and an image may have a 3 there, as its areas hold any byte.
     pub state: u8,
 }
 
-#[derive(Clone, Copy)]
-pub enum Pairing {
-    Unpaired,
-    Paired(Pair),
-}
-
-pub(crate) const UNDECIDED: u8 = 0;
+const UNDECIDED: u8 = 0;
 
 pub(crate) const PINCHING: u8 = 1;
 
-pub(crate) const NO_PINCH: u8 = 2;
+const NO_PINCH: u8 = 2;
 
 fn span(axis: Axis, p: Point, q: Point) -> u16
     ensures { result ≡ span_along axis p q }
@@ -44,9 +42,10 @@ fn pair_axis(p: Point, q: Point) -> Axis
     ensures { result ≡ pair_axis p q }
 {
     if panel::gap(p.y, q.y) <= panel::gap(p.x, q.x) {
-        return Axis::H;
+        Axis::H
+    } else {
+        Axis::V
     }
-    Axis::V
 }
 
 // The pair that the fingers p and q make, whose centroid is c.
@@ -54,12 +53,11 @@ pub fn new_pair(p: Point, q: Point, c: Point) -> Pair
     ensures { result ≡ new_pair p q c }
 {
     let axis = pair_axis(p, q);
-    let span0 = span(axis, p, q);
     Pair {
         a: p,
         b: q,
         axis,
-        span0,
+        span0: span(axis, p, q),
         c0: c,
         state: UNDECIDED,
     }
@@ -69,49 +67,35 @@ pub fn new_pair(p: Point, q: Point, c: Point) -> Pair
 fn keeps_order(r: Pair, p: Point, q: Point) -> bool
     ensures { result ≡ keeps_order r p q }
 {
-    let a = r.a;
-    let b = r.b;
-    let kept = panel::apart2(a, p) + panel::apart2(b, q);
-    let crossed = panel::apart2(a, q) + panel::apart2(b, p);
+    let kept = panel::apart2(r.a, p) + panel::apart2(r.b, q);
+    let crossed = panel::apart2(r.a, q) + panel::apart2(r.b, p);
     kept <= crossed
-}
-
-// The way down from one height to another, 0 for none.
-pub(crate) fn down_by(from: u16, to: u16) -> u16
-    ensures { result ≡ to - from }
-{
-    if from <= to { to - from } else { 0 }
 }
 
 fn state_next(state: u8, change: u16, down: u16) -> u8
     ensures { result ≡ state_next state change down }
 {
-    if state == UNDECIDED {
-        if PINCH_MIN <= change {
-            return PINCHING;
-        }
-        if PINCH_SWIPE <= down {
-            return NO_PINCH;
-        }
-        return UNDECIDED;
+    if state != UNDECIDED {
+        state
+    } else if PINCH_MIN <= change {
+        PINCHING
+    } else if PINCH_SWIPE <= down {
+        NO_PINCH
+    } else {
+        UNDECIDED
     }
-    state
 }
 
 fn pair_at(r: Pair, a: Point, b: Point, c: Point) -> Pair
     ensures { result ≡ pair_at r a b c }
 {
-    let axis = r.axis;
-    let c0 = r.c0;
-    let change = panel::gap(span(axis, a, b), r.span0);
-    let state = state_next(r.state, change, down_by(c0.y, c.y));
+    let change = panel::gap(span(r.axis, a, b), r.span0);
+    let down = c.y.saturating_sub(r.c0.y);
     Pair {
         a,
         b,
-        axis,
-        span0: r.span0,
-        c0,
-        state,
+        state: state_next(r.state, change, down),
+        ..r
     }
 }
 
@@ -120,36 +104,33 @@ pub(crate) fn pair_next(r: Pair, p: Point, q: Point, c: Point) -> Pair
     ensures { result ≡ pair_next r p q c }
 {
     if keeps_order(r, p, q) {
-        return pair_at(r, p, q, c);
+        pair_at(r, p, q, c)
+    } else {
+        pair_at(r, q, p, c)
     }
-    pair_at(r, q, p, c)
 }
 
 fn span_told(span: u16) -> u16
     ensures { result ≡ span_told span }
 {
-    if span < SPAN_LEAST {
-        return SPAN_LEAST;
-    }
-    if SPAN_MOST < span {
-        return SPAN_MOST;
-    }
-    span
+    span.clamp(SPAN_LEAST, SPAN_MOST)
 }
 
 pub(crate) fn pinch(r: Pair) -> Gesture
     ensures { result ≡ pinch_of r }
 {
-    let axis = r.axis;
-    let a = r.a;
-    let b = r.b;
-    Gesture::Pinch(axis, span_told(r.span0), span_told(span(axis, a, b)))
+    Gesture::Pinch(
+        r.axis,
+        span_told(r.span0),
+        span_told(span(r.axis, r.a, r.b)),
+    )
 }
 
 pub(crate) fn not_pinch(r: Pair) -> Pair
     ensures { result ≡ not_pinch r }
 {
-    let mut n = r;
-    n.state = NO_PINCH;
-    n
+    Pair {
+        state: NO_PINCH,
+        ..r
+    }
 }

@@ -1,4 +1,6 @@
 // What the app sets: it outlives the touches. A setting more is a field here, its first value in `unset`, and a setter.
+#![tactic(auto, using(panel::proofs::Follow::follow), unfolding(crate::specs::Settings::unset, crate::specs::Settings::set_raw, crate::specs::Settings::set_grab))]
+
 ghost use Rattle.std.specs.Prelude.{◌≡◌};
 ghost use Rattle.fingers.specs.Settings as settings;
 ghost use Rattle.fingers.specs.Settings.{set_raw, set_grab};
@@ -11,6 +13,7 @@ pub struct Settings {
     pub grab_ms: u16,
 }
 
+// By name and no derived Default: the definitions and the theorems of a fresh tracker speak of `unset`.
 pub fn unset() -> Settings
     ensures { result ≡ settings.unset }
 {
@@ -23,15 +26,14 @@ pub fn unset() -> Settings
 pub fn with_raw(set: Settings, on: bool) -> Settings
     ensures { result ≡ set_raw set on }
 {
-    let mut n = set;
-    n.raw_next = on;
-    n
+    Settings {
+        raw_next: on,
+        ..set
+    }
 }
 
 pub fn with_grab_ms(set: Settings, ms: u16) -> Settings
     ensures { result ≡ set_grab set ms }
 {
-    let mut n = set;
-    n.grab_ms = ms;
-    n
+    Settings { grab_ms: ms, ..set }
 }

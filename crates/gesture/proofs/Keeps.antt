@@ -11,11 +11,10 @@ use Rattle.fingers.proofs.Kept.{reset-fine, untaken-fine, captured-fine, direct-
 use Rattle.gesture.specs.States.{raw_rule, state_rule}
 use Rattle.gesture.specs.Trackers.{origin, whole, fresh_tracker}
 use Rattle.gesture.specs.Captures.{owned, settled, taken, wished, after_capture_direct, after_set_grab}
-use Rattle.gesture.specs.Answers.{refused, answered, reported, ticked, captured, event_of, tick_of, capture_of, capture_direct_of, raw_next_of, set_grab_of, grab_of}
+use Rattle.gesture.specs.Answers.{refused, answered, reported, ticked, captured, event_of, tick_of, capture_of, capture_direct_of, raw_next_of, set_grab_of}
 use Rattle.gesture.specs.Calls.{Call, report, tick, capture, capture_direct, raw_next, set_grab_ms, answer_of}
 use Rattle.gesture.specs.declared.record.Tracker.{Tracker}
 use Rattle.gesture.specs.declared.answers.Answer.{Answer}
-use Rattle.gesture.specs.declared.answers.GrabAnswer.{GrabAnswer}
 use Rattle.gesture.proofs.Facts.{facts, kept}
 use Rattle.gesture.proofs.Steps.{origin_on, report-fine, tick-fine}
 
@@ -60,10 +59,6 @@ unfolding set_grab_of answered refused after_set_grab settled set_grab whole
 set-grab-kept t ms h =
     let f = facts t h in
     if-all Kept _ (kept _ (f.0, f.1, f.2, omega arith)) h
-
-pub grab-kept : (t : Tracker) → state_rule t ≡ true → Kept (grab_of t).answer
-unfolding grab_of answered refused
-grab-kept t h = if-all (λ (a : GrabAnswer). Kept a.answer) _ h h
 
 -- any call of a run
 pub call_kept : (t : Tracker) (c : Call) → state_rule t ≡ true → Kept (answer_of t c)

@@ -6,4 +6,5 @@ mod Rule
 mod Facts
 mod Steps
 mod Table
-mod CallLaw
+mod Logged
+mod Counted

@@ -1,5 +1,6 @@
 -- The state rule of specs/States.antt is all the parts of specs/Parts.antt together: the same tests, in the order in which
 -- the code goes through the record. Assumes nothing.
+use Rattle.std.specs.Prelude.{Some, None}
 use mathlib.Core.Path.{◌≡◌, refl, sym}
 use mathlib.Core.Bool.{Bool, true, false}
 use mathlib.Core.List.{◌∷◌}
@@ -12,7 +13,6 @@ use Rattle.panel.proofs.Laws.{and_left, and_right}
 use Rattle.fingers.specs.Thresholds.{grab_most}
 use Rattle.fingers.specs.declared.one.One.{One}
 use Rattle.fingers.specs.declared.one.App.{App}
-use Rattle.fingers.specs.declared.pair.Pairing.TheVariants.{Unpaired, Paired}
 use Rattle.gesture.specs.code.Parts.{touch_part, several_part, multi_part, multi_places, pairing_part, pair_part, pair_places, one_part, all_parts}
 use Rattle.gesture.specs.States.{state_rule, held_points, centroids, span_rule, pair_rule, most_rule, raw_rule}
 use Rattle.gesture.specs.declared.record.Touch.{Touch}
@@ -51,12 +51,12 @@ parts-if-rule Residual o app grab h =
 parts-if-rule (Down start since) o app grab h =
     let g = and_right _ _ (and_right _ _ (and_right _ _ (and_right _ _ (and_right _ _ (and_right _ _ h))))) in
     both (and_left _ _ (and_right _ _ (and_left _ _ h))) (both (both (and_left _ _ (and_left _ _ h)) (and_left _ _ (and_right _ _ (and_right _ _ h)))) (both (and_right _ _ g) (and_left _ _ g)))
-parts-if-rule (Multi m Unpaired) o app grab h =
+parts-if-rule (Multi m None) o app grab h =
     let c = and_left _ _ (and_right _ _ h) in
     let n = and_left _ _ (and_right _ _ (and_right _ _ (and_right _ _ (and_right _ _ (and_right _ _ h))))) in
     let g = and_right _ _ (and_right _ _ (and_right _ _ (and_right _ _ (and_right _ _ (and_right _ _ h))))) in
     both (both (both (and_left _ _ n) (both (and_right _ _ n) (both (and_left _ _ c) (and_left _ _ (and_right _ _ c))))) refl) (both (both (and_left _ _ (and_left _ _ h)) (and_left _ _ (and_right _ _ (and_right _ _ h)))) (both (and_right _ _ g) (and_left _ _ g)))
-parts-if-rule (Multi m (Paired r)) o app grab h =
+parts-if-rule (Multi m (Some r)) o app grab h =
     let p = and_right _ _ (and_left _ _ h) in
     let c = and_left _ _ (and_right _ _ h) in
     let s = and_right _ _ (and_right _ _ (and_right _ _ h)) in
@@ -75,12 +75,12 @@ rule-if-parts Residual o app grab h =
 rule-if-parts (Down start since) o app grab h =
     let w = and_left _ _ (and_right _ _ h) in
     both (both (and_left _ _ w) (both (and_left _ _ h) refl)) (both refl (both (and_right _ _ w) (both refl (both refl (both refl (both (and_right _ _ (and_right _ _ (and_right _ _ h))) (and_left _ _ (and_right _ _ (and_right _ _ h)))))))))
-rule-if-parts (Multi m Unpaired) o app grab h =
+rule-if-parts (Multi m None) o app grab h =
     let w = and_left _ _ (and_right _ _ h) in
     let m = and_left _ _ (and_left _ _ h) in
     let c = and_right _ _ (and_right _ _ m) in
     both (both (and_left _ _ w) refl) (both (both (and_left _ _ c) (both (and_right _ _ c) refl)) (both (and_right _ _ w) (both refl (both refl (both (both (and_left _ _ m) (and_left _ _ (and_right _ _ m))) (both (and_right _ _ (and_right _ _ (and_right _ _ h))) (and_left _ _ (and_right _ _ (and_right _ _ h)))))))))
-rule-if-parts (Multi m (Paired r)) o app grab h =
+rule-if-parts (Multi m (Some r)) o app grab h =
     let w = and_left _ _ (and_right _ _ h) in
     let m = and_left _ _ (and_left _ _ h) in
     let c = and_right _ _ (and_right _ _ m) in
@@ -88,7 +88,7 @@ rule-if-parts (Multi m (Paired r)) o app grab h =
     let s = and_right _ _ (and_right _ _ (and_left _ _ h)) in
     both (both (and_left _ _ w) (both (and_left _ _ p) (both (and_left _ _ (and_right _ _ p)) refl))) (both (both (and_left _ _ c) (both (and_right _ _ c) (both (and_right _ _ (and_right _ _ p)) refl))) (both (and_right _ _ w) (both (and_left _ _ s) (both (and_right _ _ s) (both (both (and_left _ _ m) (and_left _ _ (and_right _ _ m))) (both (and_right _ _ (and_right _ _ (and_right _ _ h))) (and_left _ _ (and_right _ _ (and_right _ _ h)))))))))
 
-pub rule-is-parts : (t : Tracker) → state_rule t ≡ all_parts t
+pub rule_is_parts : (t : Tracker) → state_rule t ≡ all_parts t
 unfolding state_rule all_parts
-rule-is-parts t =
+rule_is_parts t =
     same (state_rule t) (all_parts t) (parts-if-rule t.touch t.one t.app t.settings.grab_ms) (rule-if-parts t.touch t.one t.app t.settings.grab_ms)

@@ -1,4 +1,5 @@
 -- What a report and a tick leave of a tracker that keeps the state rule keeps it, rule by rule. Assumes nothing.
+use Rattle.std.specs.Prelude.{Option, Some, None}
 use mathlib.Core.Path.{◌≡◌, refl, sym, ◌∙◌}
 use mathlib.Core.Bool.{true, false}
 use mathlib.Core.List.{List, [], ◌∷◌}
@@ -11,8 +12,7 @@ use Rattle.panel.specs.Points.{on_panel, all_on_panel, first_points, fingers}
 use Rattle.panel.specs.declared.points.Point.{Point}
 use Rattle.panel.specs.declared.points.Event.{Event}
 use Rattle.panel.proofs.Laws.{and_left, and_right, middle-on-panel}
-use Rattle.fingers.specs.declared.keys.KeyStep.{KeyStep}
-use Rattle.fingers.specs.declared.keys.KeyStep.TheVariants.{Same, Flipped}
+use Rattle.fingers.specs.declared.gestures.Gesture.{Gesture}
 use Rattle.fingers.specs.declared.gestures.Outcome.{Outcome}
 use Rattle.fingers.specs.declared.several.MultiStep.{MultiStep}
 use Rattle.fingers.proofs.Kept.{FinePairing, FineMulti, FineMultiStep, reset-fine, untaken-fine, later-fine, still-fine, new-fine, from-fine, two-fine, three-fine}
@@ -123,10 +123,10 @@ fingers-fine t ev now f h =
     let r = fingers-range ev.points (eqb-false _ _ n0) (eqb-false _ _ n1) (eqb-false _ _ n2) in
     more-of-fine t (fingers ev.points) ev.pts now f r.0 r.1 (ap (λ (k : ℕ). all_on_panel (take k ev.pts)) (fingers-twice ev.points) ∙ use-several ev n1 h))))
 
-keys-fine : (k : KeyStep) (t : Tracker) (ev : Event) (now : ℕ) → Fine t → all_on_panel (points_in_use ev) ≡ true → FineAfter (keys_then_fingers k t ev now)
+keys-fine : (k : Option (Gesture × ℕ)) (t : Tracker) (ev : Event) (now : ℕ) → Fine t → all_on_panel (points_in_use ev) ≡ true → FineAfter (keys_then_fingers k t ev now)
 unfolding keys_then_fingers keyed whole
-keys-fine (Flipped g keys) t ev now f h = f
-keys-fine Same t ev now f h = fingers-fine _ ev now f h
+keys-fine (Some (g, keys)) t ev now f h = f
+keys-fine None t ev now f h = fingers-fine _ ev now f h
 
 pub report-fine : (t : Tracker) (ev : Event) (now : ℕ) → Fine t → all_on_panel (points_in_use ev) ≡ true → FineAfter (report_step t ev now)
 unfolding report_step
@@ -141,10 +141,10 @@ still-down-fine Residual t now d f = f
 still-down-fine (Multi m pair) t now d f = f
 still-down-fine (Down start since) t now d f = (d, still-fine t.one t.app start since now t.settings f.1, f.2, f.3)
 
-hold-fine : (k : KeyStep) (t : Tracker) (now : ℕ) → Fine t → FineAfter (keys_then_hold k t now)
+hold-fine : (k : Option (Gesture × ℕ)) (t : Tracker) (now : ℕ) → Fine t → FineAfter (keys_then_hold k t now)
 unfolding keys_then_hold keyed whole
-hold-fine (Flipped g keys) t now f = f
-hold-fine Same t now f = still-down-fine t.touch t now f.0 f
+hold-fine (Some (g, keys)) t now f = f
+hold-fine None t now f = still-down-fine t.touch t now f.0 f
 
 pub tick-fine : (t : Tracker) (now : ℕ) → Fine t → FineAfter (tick_step t now)
 unfolding tick_step

@@ -11,46 +11,46 @@ use Rattle.fingers.specs.Gestures.{is_drag}
 use Rattle.gesture.specs.Lines.{line_at, gesture_line}
 use Rattle.gesture.specs.code.Codes.{coded_as, code_of, line_by_code, is_later_drag}
 
-pub line-by-code : (g : Gesture) (now : ℕ) → gesture_line g now ≡ line_by_code (code_of g).code (code_of g).number (code_of g).p now
+pub line_is_by_code : (g : Gesture) (now : ℕ) → gesture_line g now ≡ line_by_code (code_of g).code (code_of g).number (code_of g).p now
 unfolding tests.when◌then◌else◌ line_at gesture_line coded_as code_of line_by_code
-line-by-code (Down p) now = refl
-line-by-code (Tap p) now = refl
-line-by-code (LongPress p) now = refl
-line-by-code (Drag start p a) now = refl
-line-by-code (Grab p) now = refl
-line-by-code (Up p) now = refl
-line-by-code SwipeLeft now = refl
-line-by-code SwipeRight now = refl
-line-by-code SwipeUp now = refl
-line-by-code SwipeDown now = refl
-line-by-code Cancel now = refl
-line-by-code (MultiSwipeDown n) now = refl
-line-by-code (KeyDown key) now = refl
-line-by-code (KeyUp key) now = refl
-line-by-code (Move prev p) now = refl
-line-by-code (Pinch a span0 span) now = refl
-line-by-code (PinchEnd released) now = refl
+line_is_by_code (Down p) now = refl
+line_is_by_code (Tap p) now = refl
+line_is_by_code (LongPress p) now = refl
+line_is_by_code (Drag start p a) now = refl
+line_is_by_code (Grab p) now = refl
+line_is_by_code (Up p) now = refl
+line_is_by_code SwipeLeft now = refl
+line_is_by_code SwipeRight now = refl
+line_is_by_code SwipeUp now = refl
+line_is_by_code SwipeDown now = refl
+line_is_by_code Cancel now = refl
+line_is_by_code (MultiSwipeDown n) now = refl
+line_is_by_code (KeyDown key) now = refl
+line_is_by_code (KeyUp key) now = refl
+line_is_by_code (Move prev p) now = refl
+line_is_by_code (Pinch a span0 span) now = refl
+line_is_by_code (PinchEnd released) now = refl
 
-drag-by-code : (g : Gesture) → is_drag g ≡ ((code_of g).code =? 3)
+drag_by_code : (g : Gesture) → is_drag g ≡ ((code_of g).code =? 3)
 unfolding coded_as code_of
-drag-by-code (Down p) = refl
-drag-by-code (Tap p) = refl
-drag-by-code (LongPress p) = refl
-drag-by-code (Drag start p a) = refl
-drag-by-code (Grab p) = refl
-drag-by-code (Up p) = refl
-drag-by-code SwipeLeft = refl
-drag-by-code SwipeRight = refl
-drag-by-code SwipeUp = refl
-drag-by-code SwipeDown = refl
-drag-by-code Cancel = refl
-drag-by-code (MultiSwipeDown n) = refl
-drag-by-code (KeyDown key) = refl
-drag-by-code (KeyUp key) = refl
-drag-by-code (Move prev p) = refl
-drag-by-code (Pinch a span0 span) = refl
-drag-by-code (PinchEnd released) = refl
+drag_by_code (Down p) = refl
+drag_by_code (Tap p) = refl
+drag_by_code (LongPress p) = refl
+drag_by_code (Drag start p a) = refl
+drag_by_code (Grab p) = refl
+drag_by_code (Up p) = refl
+drag_by_code SwipeLeft = refl
+drag_by_code SwipeRight = refl
+drag_by_code SwipeUp = refl
+drag_by_code SwipeDown = refl
+drag_by_code Cancel = refl
+drag_by_code (MultiSwipeDown n) = refl
+drag_by_code (KeyDown key) = refl
+drag_by_code (KeyUp key) = refl
+drag_by_code (Move prev p) = refl
+drag_by_code (Pinch a span0 span) = refl
+drag_by_code (PinchEnd released) = refl
 
-pub later-drag-by-code : (g : Gesture) (locked : Bool) → ◌and◌ (is_drag g) locked ≡ is_later_drag (code_of g).code locked
+pub later_drag_by_code : (g : Gesture) (locked : Bool) → ◌and◌ (is_drag g) locked ≡ is_later_drag (code_of g).code locked
 unfolding is_later_drag
-later-drag-by-code g locked = rw (drag-by-code g)
+later_drag_by_code g locked = rw (drag_by_code g)

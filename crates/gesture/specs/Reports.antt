@@ -10,7 +10,7 @@
 --
 -- "Each report with two or more clears residual. Centroid: sums divided by n, rounded down. If a one-finger touch was on,
 -- the answer is Cancel, multi starts, and with two fingers a new pair." "A count over 5 means 5."
-use Rattle.std.specs.Prelude.{ℕ, ◌-◌, Bool, false, List, get_or}
+use Rattle.std.specs.Prelude.{ℕ, ◌-◌, Bool, false, List, get_or, Option, Some, None}
 use Rattle.panel.specs.Tests.{when◌then◌else◌, ◌<?◌, ◌=?◌}
 use Rattle.panel.specs.Points.{first_points, fingers}
 use Rattle.panel.specs.Centroids.{middle}
@@ -24,22 +24,18 @@ use Rattle.fingers.specs.OneFinger.{later_report}
 use Rattle.fingers.specs.Releases.{noted, release_of}
 use Rattle.fingers.specs.Pairs.{new_pair}
 use Rattle.fingers.specs.Several.{multi_step, multi_from, two_fingers, three_fingers, multi_end}
+use Rattle.fingers.specs.declared.gestures.Gesture.{Gesture}
 use Rattle.fingers.specs.declared.gestures.Gesture.TheVariants.{Cancel}
 use Rattle.fingers.specs.declared.gestures.Gesture.TheVariants as gesture
 use Rattle.fingers.specs.declared.gestures.Outcome.{Outcome}
 use Rattle.fingers.specs.declared.gestures.Outcome.TheVariants.{Quiet, Gives}
-use Rattle.fingers.specs.declared.keys.KeyStep.{KeyStep}
-use Rattle.fingers.specs.declared.keys.KeyStep.TheVariants.{Same, Flipped}
 use Rattle.fingers.specs.declared.one.One.{One}
 use Rattle.fingers.specs.declared.one.App.{App}
 use Rattle.fingers.specs.declared.one.OneStep.{OneStep}
-use Rattle.fingers.specs.declared.pair.Pairing.TheVariants.{Unpaired, Paired}
 use Rattle.fingers.specs.declared.several.MultiStep.{MultiStep}
 use Rattle.gesture.specs.Trackers.{step, origin, keys_at, touched, keyed}
 use Rattle.gesture.specs.declared.record.Touch.{Touch}
 use Rattle.gesture.specs.declared.record.Touch.TheVariants.{Idle, Down, Multi, Residual}
-use Rattle.gesture.specs.declared.record.MultiEnd.{MultiEnd}
-use Rattle.gesture.specs.declared.record.MultiEnd.TheVariants.{Never, At}
 use Rattle.gesture.specs.declared.record.Tracker.{Tracker}
 use Rattle.gesture.specs.declared.record.Step.{Step}
 
@@ -51,10 +47,10 @@ up_outcome Residual one app now = Quiet
 up_outcome (Multi m pair) one app now = multi_end m pair
 up_outcome (Down start since) one app now = release_of one app start since now
 
-unfoldable pub end_stored : Touch → MultiEnd → ℕ → MultiEnd
+unfoldable pub end_stored : Touch → Option ℕ → ℕ → Option ℕ
 end_stored Idle end now = end
 end_stored Residual end now = end
-end_stored (Multi m pair) end now = At now
+end_stored (Multi m pair) end now = Some now
 end_stored (Down start since) end now = end
 
 unfoldable pub all_up : Tracker → ℕ → Step
@@ -64,15 +60,15 @@ all_up t now =
 -- Count 1.
 
 -- "under 300 ms since"
-unfoldable pub is_last_finger : MultiEnd → ℕ → Bool
-is_last_finger Never now = false
-is_last_finger (At end) now = now - end <? lift_gap
+unfoldable pub is_last_finger : Option ℕ → ℕ → Bool
+is_last_finger None now = false
+is_last_finger (Some end) now = now - end <? lift_gap
 
 unfoldable pub residual_touch : Tracker → Point → Step
-residual_touch t p = step (noted note_residual p) (touched t Residual t.one t.app Never)
+residual_touch t p = step (noted note_residual p) (touched t Residual t.one t.app None)
 
 unfoldable pub new_touch : Tracker → Point → ℕ → Step
-new_touch t p now = step (Gives (gesture.Down p)) (touched t (Down p now) (reset p) untaken Never)
+new_touch t p now = step (Gives (gesture.Down p)) (touched t (Down p now) (reset p) untaken None)
 
 unfoldable pub touch_down : Tracker → Point → ℕ → Step
 touch_down t p now = when is_last_finger t.multi_end now then residual_touch t p else new_touch t p now
@@ -90,7 +86,7 @@ one_finger (Down start since) t p now = goes_on (later_report t.one t.app start 
 -- Two or more: the touch is one of several from here on. p and q are the first two of the points, c is the centroid.
 
 unfoldable pub two_start : Outcome → Point → Point → Point → ℕ → MultiStep
-two_start out p q c now = multi_step out (multi_from 2 c now) (Paired (new_pair p q c))
+two_start out p q c now = multi_step out (multi_from 2 c now) (Some (new_pair p q c))
 
 unfoldable pub two : Touch → Point → Point → Point → ℕ → MultiStep
 two Idle p q c now = two_start Quiet p q c now
@@ -99,7 +95,7 @@ two (Down start since) p q c now = two_start (Gives Cancel) p q c now
 two (Multi m pair) p q c now = two_fingers pair m p q c now
 
 unfoldable pub more_start : Outcome → ℕ → Point → ℕ → MultiStep
-more_start out n c now = multi_step out (multi_from n c now) Unpaired
+more_start out n c now = multi_step out (multi_from n c now) None
 
 unfoldable pub more : Touch → ℕ → Point → ℕ → MultiStep
 more Idle n c now = more_start Quiet n c now
@@ -131,9 +127,9 @@ fingers_of t ev now =
 -- The report.
 
 -- "Store its mask as wanted." "that bit flips and the call ends, fingers unread"
-unfoldable pub keys_then_fingers : KeyStep → Tracker → Event → ℕ → Step
-keys_then_fingers (Flipped g told) t ev now = step (Gives g) (keyed t (keys_at told ev.keys))
-keys_then_fingers Same t ev now = fingers_of (keyed t (keys_at t.keys.told ev.keys)) ev now
+unfoldable pub keys_then_fingers : Option (Gesture × ℕ) → Tracker → Event → ℕ → Step
+keys_then_fingers (Some (g, told)) t ev now = step (Gives g) (keyed t (keys_at told ev.keys))
+keys_then_fingers None t ev now = fingers_of (keyed t (keys_at t.keys.told ev.keys)) ev now
 
 unfoldable pub report_step : Tracker → Event → ℕ → Step
 report_step t ev now = keys_then_fingers (key_step t.keys.told ev.keys) t ev now

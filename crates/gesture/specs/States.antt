@@ -5,7 +5,7 @@
 --
 -- By type, so that no test stands for it: active exactly if one of down, multi, residual is there, never two (a `Touch` is
 -- one of Idle, Down, Multi, Residual); a pair needs multi (it stands inside it).
-use Rattle.std.specs.Prelude.{Bool, true, not, List, [], ◌∷◌}
+use Rattle.std.specs.Prelude.{Bool, true, not, List, [], ◌∷◌, Some, None}
 use Rattle.panel.specs.Tests.{◌and◌, ◌or◌, ◌≤?◌, ◌<?◌}
 use Rattle.panel.specs.Sizes.{width, max_points}
 use Rattle.panel.specs.Points.{all_on_panel}
@@ -13,7 +13,6 @@ use Rattle.panel.specs.declared.points.Point.{Point}
 use Rattle.fingers.specs.Thresholds.{grab_most, fewest}
 use Rattle.fingers.specs.Pairs.{no_pinch}
 use Rattle.fingers.specs.declared.one.App.{App}
-use Rattle.fingers.specs.declared.pair.Pairing.TheVariants.{Unpaired, Paired}
 use Rattle.gesture.specs.declared.record.Touch.{Touch}
 use Rattle.gesture.specs.declared.record.Touch.TheVariants.{Idle, Down, Multi, Residual}
 use Rattle.gesture.specs.declared.record.Tracker.{Tracker}
@@ -22,31 +21,31 @@ use Rattle.gesture.specs.declared.record.Tracker.{Tracker}
 unfoldable pub held_points : Touch → List Point
 held_points Idle = []
 held_points (Down start since) = start ∷ []
-held_points (Multi m Unpaired) = []
-held_points (Multi m (Paired r)) = r.a ∷ r.b ∷ []
+held_points (Multi m None) = []
+held_points (Multi m (Some r)) = r.a ∷ r.b ∷ []
 held_points Residual = []
 
 unfoldable pub centroids : Touch → List Point
 centroids Idle = []
 centroids (Down start since) = []
-centroids (Multi m Unpaired) = m.c0 ∷ m.c1 ∷ []
-centroids (Multi m (Paired r)) = m.c0 ∷ m.c1 ∷ r.c0 ∷ []
+centroids (Multi m None) = m.c0 ∷ m.c1 ∷ []
+centroids (Multi m (Some r)) = m.c0 ∷ m.c1 ∷ r.c0 ∷ []
 centroids Residual = []
 
 -- "far and span0 0..479": less than the panel is wide
 unfoldable pub span_rule : Touch → Bool
 span_rule Idle = true
 span_rule (Down start since) = true
-span_rule (Multi m Unpaired) = true
-span_rule (Multi m (Paired r)) = r.span0 <? width
+span_rule (Multi m None) = true
+span_rule (Multi m (Some r)) = r.span0 <? width
 span_rule Residual = true
 
 -- "pair state 0..2"
 unfoldable pub pair_rule : Touch → Bool
 pair_rule Idle = true
 pair_rule (Down start since) = true
-pair_rule (Multi m Unpaired) = true
-pair_rule (Multi m (Paired r)) = r.state ≤? no_pinch
+pair_rule (Multi m None) = true
+pair_rule (Multi m (Some r)) = r.state ≤? no_pinch
 pair_rule Residual = true
 
 -- "most fingers 2..5"

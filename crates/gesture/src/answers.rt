@@ -1,63 +1,53 @@
-// What a call answers: the refusal's number or 0, the gesture, the log line, and the tracker.
+// What a call answers: a gesture and a log line, or why it was refused; and the tracker.
 ghost use Rattle.std.specs.Prelude.{◌≡◌};
 ghost use Rattle.gesture.specs.Answers as rule;
 ghost use Rattle.gesture.specs.Answers.{given_by};
 
-use crate::lines::Log;
+use crate::lines::Line;
 use crate::record::Tracker;
 use fingers::{Gesture, Outcome};
 use panel::Refusal;
 
+// What a call that is not refused tells.
 #[derive(Clone, Copy)]
-pub enum Given {
-    Nothing,
-    Gave(Gesture),
+pub struct Response {
+    pub gesture: Option<Gesture>,
+    pub log: Option<Line>,
 }
 
+// What a call tells, and the tracker that it leaves.
 #[derive(Clone, Copy)]
 pub struct Answer {
-    // 0, or why the call was refused.
-    pub refusal: u8,
-    pub gesture: Given,
-    pub log: Log,
+    pub told: Result<Response, Refusal>,
     pub tracker: Tracker,
 }
 
-// The grab time beside the answer: 0 for a refused call.
-#[derive(Clone, Copy)]
-pub struct GrabAnswer {
-    pub ms: u16,
-    pub answer: Answer,
-}
-
+#[tactic(auto, unfolding(crate::specs::Answers::refused))]
 pub(crate) fn refused(why: Refusal, t: Tracker) -> Answer
     ensures { result ≡ rule.refused why t }
 {
     Answer {
-        refusal: panel::number(why),
-        gesture: Given::Nothing,
-        log: Log::Silent,
+        told: Err(why),
         tracker: t,
     }
 }
 
-pub(crate) fn answered(gesture: Given, log: Log, t: Tracker) -> Answer
+#[tactic(auto, unfolding(crate::specs::Answers::answered))]
+pub(crate) fn answered(gesture: Option<Gesture>, log: Option<Line>, t: Tracker) -> Answer
     ensures { result ≡ rule.answered gesture log t }
 {
     Answer {
-        refusal: 0,
-        gesture,
-        log,
+        told: Ok(Response { gesture, log }),
         tracker: t,
     }
 }
 
-pub(crate) fn given_by(out: Outcome) -> Given
+#[tactic(auto, unfolding(crate::specs::Answers::given_by))]
+pub(crate) fn given_by(out: Outcome) -> Option<Gesture>
     ensures { result ≡ given_by out }
 {
     match out {
-        Outcome::Quiet => Given::Nothing,
-        Outcome::Noted(_) => Given::Nothing,
-        Outcome::Gives(g) => Given::Gave(g),
+        Outcome::Quiet | Outcome::Noted(_) => None,
+        Outcome::Gives(g) => Some(g),
     }
 }

@@ -13,10 +13,10 @@ mod reports;
 mod states;
 mod ticks;
 
-pub use answers::{Answer, Given, GrabAnswer};
+pub use answers::{Answer, Response};
 pub use calls::{capture, capture_direct, event, grab_ms, raw_next, set_grab_ms, tick};
-pub use fingers::{App, Gesture, Keys, Multi, One, Pair, Pairing, Settings};
-pub use lines::{Line, Log};
-pub use making::{Call, CallKind, make};
-pub use record::{MultiEnd, Touch, Tracker, fresh};
+pub use fingers::{App, Gesture, Keys, Multi, One, Pair, Settings};
+pub use lines::Line;
+pub use making::{Call, make};
+pub use record::{Touch, Tracker, fresh};
 pub use states::state_ok;

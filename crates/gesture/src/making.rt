@@ -8,11 +8,11 @@ use crate::calls;
 use crate::record::Tracker;
 use panel::Event;
 
-// Which call it is, with its numbers.
+// A call on a tracker.
 #[derive(Clone, Copy)]
-pub enum CallKind {
-    // A report of the controller at a time.
-    Report(u64),
+pub enum Call {
+    // A report of the controller, and its time.
+    Report(Event, u64),
     Tick(u64),
     Capture,
     CaptureDirect,
@@ -20,29 +20,16 @@ pub enum CallKind {
     SetGrabMs(u16),
 }
 
-// A call on a tracker. `event` is the report of a Report, and is not looked at elsewhere: a variant holds no list, and
-// a report has one.
-#[derive(Clone, Copy)]
-pub struct Call {
-    pub kind: CallKind,
-    pub event: Event,
-}
-
-// Makes a call on a tracker. The report is fetched in its arm, where alone it is read: handed on before the match it is
-// copied for every call.
+// Makes a call on a tracker.
 pub fn make(t: Tracker, c: Call) -> Answer
     ensures { result ≡ answer_of t (call_of c) }
 {
-    let kind = c.kind;
-    match kind {
-        CallKind::Report(now) => {
-            let event = c.event;
-            calls::event(t, event, now)
-        }
-        CallKind::Tick(now) => calls::tick(t, now),
-        CallKind::Capture => calls::capture(t),
-        CallKind::CaptureDirect => calls::capture_direct(t),
-        CallKind::RawNext(on) => calls::raw_next(t, on),
-        CallKind::SetGrabMs(ms) => calls::set_grab_ms(t, ms),
+    match c {
+        Call::Report(ev, now) => calls::event(t, ev, now),
+        Call::Tick(now) => calls::tick(t, now),
+        Call::Capture => calls::capture(t),
+        Call::CaptureDirect => calls::capture_direct(t),
+        Call::RawNext(on) => calls::raw_next(t, on),
+        Call::SetGrabMs(ms) => calls::set_grab_ms(t, ms),
     }
 }

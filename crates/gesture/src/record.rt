@@ -3,9 +3,9 @@
 // finger's part and the app's stand beside it because they outlive a touch.
 ghost use Rattle.std.specs.Prelude.{◌≡◌};
 ghost use Rattle.fingers.specs.declared.gestures.Outcome.TheVariants.{Quiet};
-ghost use Rattle.gesture.specs.Trackers.{fresh_tracker, is_active, step, touched, keyed};
+ghost use Rattle.gesture.specs.Trackers.{fresh_tracker, is_active, step, keyed};
 
-use fingers::{App, Keys, Multi, One, Outcome, Pairing, Settings};
+use fingers::{App, Keys, Multi, One, Outcome, Pair, Settings};
 use panel::Point;
 
 #[derive(Clone, Copy)]
@@ -14,24 +14,18 @@ pub enum Touch {
     // One finger: where and when it went down.
     Down(Point, u64),
     // The touch had two or more fingers, and may have a pair to tell a pinch by.
-    Multi(Multi, Pairing),
+    Multi(Multi, Option<Pair>),
     // The remaining finger of a multi-finger touch: key changes alone are told until it is up or gains another.
     Residual,
 }
 
-// End time of the last multi-finger touch, until a touch-down uses it up.
-#[derive(Clone, Copy)]
-pub enum MultiEnd {
-    Never,
-    At(u64),
-}
-
-// The order of the fields, here and in their parts, is for speed: docs/BENCH.md.
+// The order of the fields, here and in their parts, is for speed: docs/BENCH.md. So is how a part is set, on a copy: with
+// the other fields by `..t` a report takes 40 to 65 instructions more.
 #[derive(Clone, Copy)]
 pub struct Tracker {
     pub settings: Settings,
     pub touch: Touch,
-    pub multi_end: MultiEnd,
+    pub multi_end: Option<u64>,
     pub keys: Keys,
     pub app: App,
     pub one: One,
@@ -44,6 +38,8 @@ pub struct Step {
     pub tracker: Tracker,
 }
 
+// Its parts by the names that they have in the definition `fresh_tracker`, and no derived Default.
+#[tactic(auto, unfolding(crate::specs::Trackers::fresh_tracker, crate::specs::Trackers::whole))]
 pub fn fresh() -> Tracker
     ensures { result ≡ fresh_tracker }
 {
@@ -51,22 +47,18 @@ pub fn fresh() -> Tracker
         touch: Touch::Idle,
         one: fingers::reset(Point { x: 0, y: 0 }),
         app: fingers::untaken(),
-        multi_end: MultiEnd::Never,
+        multi_end: None,
         keys: Keys { told: 0, wanted: 0 },
         settings: fingers::unset(),
     }
 }
 
 // A touch is in progress, with any number of fingers.
+#[tactic(auto, unfolding(crate::specs::Trackers::is_active))]
 pub(crate) fn is_active(touch: Touch) -> bool
     ensures { result ≡ is_active touch }
 {
-    match touch {
-        Touch::Idle => false,
-        Touch::Down(_, _) => true,
-        Touch::Multi(_, _) => true,
-        Touch::Residual => true,
-    }
+    !matches!(touch, Touch::Idle)
 }
 
 // Nothing came of the call, and nothing is altered.
@@ -79,22 +71,7 @@ pub(crate) fn quiet(t: Tracker) -> Step
     }
 }
 
-// With what the fingers left: the touch, what its one finger did, what the app made of it, and the stored end of several.
-pub(crate) fn with_touch(t: Tracker, touch: Touch, one: One, app: App, end: MultiEnd) -> Tracker
-    ensures { result ≡ touched t touch one app end }
-{
-    let keys = t.keys;
-    let settings = t.settings;
-    Tracker {
-        touch,
-        one,
-        app,
-        multi_end: end,
-        keys,
-        settings,
-    }
-}
-
+#[tactic(auto, unfolding(crate::specs::Trackers::keyed, crate::specs::Trackers::whole))]
 pub(crate) fn with_keys(t: Tracker, keys: Keys) -> Tracker
     ensures { result ≡ keyed t keys }
 {

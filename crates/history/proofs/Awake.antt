@@ -1,16 +1,16 @@
 -- No tracker that sleeps meets the demand: after any history, a touch that starts with one finger gives Down, and whatever
 -- touch was on, it is over at the next report of none and 300 ms later a finger gives Down again. Assumes nothing.
+use Rattle.std.specs.Prelude.{Option, Some}
 use Prim.Native.Nat.{ℕ, ◌+◌, ◌≤◌}
 use mathlib.Core.Path.{◌≡◌, refl, sym, ap, ap₂, subst, ◌∙◌}
 use mathlib.Core.Bool.{false}
 use mathlib.Core.List.{List, [], ◌∷◌, ◌++◌}
 use borrow.Author.Tests.{le-ltb}
 use Rattle.fingers.specs.declared.gestures.Gesture.TheVariants.{Down}
+use Rattle.fingers.specs.declared.gestures.Gesture.{Gesture}
 use Rattle.gesture.specs.Runs.{made, run, after}
 use Rattle.gesture.specs.Calls.{Call, report, answer_of}
 use Rattle.gesture.specs.Trackers.{fresh_tracker}
-use Rattle.gesture.specs.declared.answers.Given.{Given}
-use Rattle.gesture.specs.declared.answers.Given.TheVariants.{Gave}
 use Rattle.gesture.specs.declared.record.Tracker.{Tracker}
 use Rattle.panel.proofs.Follow.{if-true, if-false, if-all}
 use Rattle.panel.specs.Tests.{◌=?◌}
@@ -58,12 +58,12 @@ module _ (cs : List Call) (now : ℕ) (ev : Event) (all : AllAccepted cs) (accep
 
   -- No touch is on, and a report of the keys told has one finger, not close to the release of several: it gives Down.
   pub next_down : (known_after cs).touch ≡ off → ev.points ≡ 1 → ev.keys ≡ (known_after cs).keys → close (known_after cs).before now ≡ false →
-      history (cs ++ (report now ev ∷ [])) ≡ history cs ++ (record { call = report now ev; refusal = 0; given = Gave (Down ev.p) } ∷ [])
+      history (cs ++ (report now ev ∷ [])) ≡ history cs ++ (record { call = report now ev; refusal = 0; given = Some (Down ev.p) } ∷ [])
   unfolding last
   next_down idle one same far =
       let r = accepted-answered (history cs) last [] last-place in
       let g = down-at-once (history cs) last [] last-place now ev refl (last-unspent same) idle one far in
-      last-split ∙ ap₂ (λ (n : ℕ) (x : Given). history cs ++ (record { call = report now ev; refusal = n; given = x } ∷ [])) r g
+      last-split ∙ ap₂ (λ (n : ℕ) (x : Option Gesture). history cs ++ (record { call = report now ev; refusal = n; given = x } ∷ [])) r g
 
   -- what is known after a report of none, of the keys told
   none-known : ev.points ≡ 0 → ev.keys ≡ (known_after cs).keys →
@@ -81,7 +81,7 @@ later-far t before release now late = if-all (λ (b : Before). close b now ≡ f
 pub wakes-again : (cs : List Call) (touch : Touch) (release now : ℕ) (up ev : Event) → AllAccepted cs → Accepted (report release up) → Accepted (report now ev) → (known_after cs).touch ≡ on touch →
     up.points ≡ 0 → up.keys ≡ (known_after cs).keys → ev.points ≡ 1 → ev.keys ≡ (known_after cs).keys → release + gap ≤ now →
     let ds = cs ++ (report release up ∷ []) in
-    history (ds ++ (report now ev ∷ [])) ≡ history ds ++ (record { call = report now ev; refusal = 0; given = Gave (Down ev.p) } ∷ [])
+    history (ds ++ (report now ev ∷ [])) ≡ history ds ++ (record { call = report now ev; refusal = 0; given = Some (Down ev.p) } ∷ [])
 wakes-again cs touch release now up ev all a a' is-on none same one same' late =
     let ds = cs ++ (report release up ∷ []) in
     let k = none-known cs release up all a none same in

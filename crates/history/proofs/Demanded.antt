@@ -4,6 +4,7 @@ use mathlib.Core.Path.{◌≡◌, refl, sym, subst}
 use mathlib.Core.List.{List, [], ◌∷◌}
 use native.Mathlib.Omega.{arith}
 use Rattle.gesture.proofs.Keeps.{fresh_kept}
+use Rattle.gesture.specs.Answers.{given}
 use Rattle.gesture.specs.Runs.{run}
 use Rattle.gesture.specs.Calls.{Call, report, tick, capture, capture_direct, raw_next, set_grab_ms, answer_of}
 use Rattle.gesture.specs.Trackers.{whole, fresh_tracker}
@@ -22,7 +23,7 @@ tells_all (c ∷ cs) t s mask i w a =
     λ r.
     let u = (answer_of t c).tracker in
     let l = call-leaves t s i c mask w a.0 r in
-    l.tells (λ left. TellsAll mask left (sayings u cs)) (tells_all cs u (watch s c (answer_of t c).gesture) mask (call-good t s i c a.0).together l.want a.1)
+    l.tells (λ left. TellsAll mask left (sayings u cs)) (tells_all cs u (watch s c (given (answer_of t c))) mask (call-good t s i c a.0).together l.want a.1)
 
 keys-told : (c : Call) (cs : List Call) (t : Tracker) (s : Seen) → Together t s → Accepted c → AllAccepted cs → KeysTold s c (sayings t (c ∷ cs))
 unfolding run TellsAll
@@ -31,8 +32,8 @@ keys-told (report now ev) cs t s i a as' =
     let c = report now ev in
     let u = (answer_of t c).tracker in
     let l = report-leaves t s i now ev a in
-    subst (λ (k : ℕ). Tells (changes k ev.keys) c (answer_of t c).gesture (λ left. TellsAll ev.keys left (sayings u cs))) (sym i.keys)
-    (l.tells (λ left. TellsAll ev.keys left (sayings u cs)) (tells_all cs u (watch s c (answer_of t c).gesture) ev.keys (call-good t s i c a).together l.want as'))
+    subst (λ (k : ℕ). Tells (changes k ev.keys) c (given (answer_of t c)) (λ left. TellsAll ev.keys left (sayings u cs))) (sym i.keys)
+    (l.tells (λ left. TellsAll ev.keys left (sayings u cs)) (tells_all cs u (watch s c (given (answer_of t c))) ev.keys (call-good t s i c a).together l.want as'))
 keys-told (tick now) cs t s i a as' = tt
 keys-told capture cs t s i a as' = tt
 keys-told capture_direct cs t s i a as' = tt
@@ -51,7 +52,7 @@ kept (c ∷ cs) t s i a =
         down = g.down;
         excepted = g.excepted;
       },
-      kept cs (answer_of t c).tracker (watch s c (answer_of t c).gesture) g.together a.1,
+      kept cs (answer_of t c).tracker (watch s c (given (answer_of t c))) g.together a.1,
     )
 
 pub fresh-together : Together fresh_tracker start

@@ -1,20 +1,15 @@
 -- The number d of the sentence on keys: the changes are as many as the keys in which the two masks differ, and there are
 -- none to the mask that is told already. Assumes nothing.
-use Prim.Native.Nat.{ℕ, suc, ◌+◌}
-use mathlib.Core.Path.{◌≡◌, refl, ap, ap₂, ◌∙◌}
+use Prim.Native.Nat.{ℕ, ◌+◌}
+use mathlib.Core.Path.{◌≡◌, refl, ap₂, ◌∙◌}
 use mathlib.Core.Bool.{Bool, true, false, not}
 use mathlib.Core.List.{List, [], ◌∷◌, map}
 use native.Mathlib.Omega.{arith}
-use lib.ListN.{length, length-append}
-use Rattle.fingers.specs.declared.gestures.Gesture.{Gesture}
+use lib.ListN.{length, length-append, length-map}
 use Rattle.fingers.specs.declared.gestures.Gesture.TheVariants.{KeyUp, KeyDown}
 use Rattle.panel.specs.Tests.{◌and◌, ◌or◌}
 use Rattle.history.specs.Keys.{has, filter, put_if, all_keys, lacking, differing, changes}
 use Rattle.history.proofs.KeyBits.{keep_same}
-
-map-length : (f : ℕ → Gesture) (keys : List ℕ) → length (map f keys) ≡ length keys
-map-length f [] = refl
-map-length f (key ∷ keys) = ap suc (map-length f keys)
 
 -- a key is in one mask alone, in the other alone, or in neither
 put-split : (p q : Bool) (key : ℕ) (xs ys zs : List ℕ) → length xs + length ys ≡ length zs →
@@ -37,7 +32,7 @@ pub as-many-changes : (told mask : ℕ) → length (changes told mask) ≡ lengt
 unfolding changes lacking differing
 as-many-changes told mask =
     length-append (map KeyUp (lacking told mask)) (map KeyDown (lacking mask told))
-    ∙ ap₂ (λ (x y : ℕ). x + y) (map-length KeyUp (lacking told mask)) (map-length KeyDown (lacking mask told)) ∙ split (has told) (has mask) all_keys
+    ∙ ap₂ (λ (x y : ℕ). x + y) (length-map (lacking told mask) KeyUp) (length-map (lacking mask told) KeyDown) ∙ split (has told) (has mask) all_keys
 
 in-neither : (p : Bool) → (p and not p) ≡ false
 unfolding ◌and◌

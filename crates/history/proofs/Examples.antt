@@ -1,5 +1,6 @@
 -- Worked histories: calls on a fresh tracker, and what is heard at each. Computed by the definitions that the contracts
 -- of the shipped functions name. Assumes nothing.
+use Rattle.std.specs.Prelude.{Option, Some, None}
 use Prim.Native.Nat.{ℕ}
 use mathlib.Core.Path.{◌≡◌, refl, sym, ◌∙◌}
 use mathlib.Core.Bool.{true, false}
@@ -16,6 +17,7 @@ use Rattle.fingers.specs.Several.{multi_from, multi_grown, multi_seen, pinch_or_
 use Rattle.fingers.specs.declared.gestures.Gesture.TheVariants.{Down, Tap, LongPress, Drag, Grab, Up, Move, Cancel, MultiSwipeDown, KeyDown, KeyUp, Pinch, PinchEnd}
 use Rattle.fingers.specs.declared.one.App.{App}
 use Rattle.fingers.specs.declared.one.One.{One}
+use Rattle.fingers.specs.declared.gestures.Gesture.{Gesture}
 use Rattle.gesture.specs.Answers.{answered, given_by, points_in_use, reported, event_of, ticked, tick_of, captured, capture_of, capture_direct_of, raw_next_of, set_grab_of}
 use Rattle.gesture.specs.Runs.{run, after}
 use Rattle.gesture.specs.Calls.{Call, report, tick, capture, capture_direct, raw_next, set_grab_ms}
@@ -24,11 +26,8 @@ use Rattle.gesture.specs.Reports.{up_outcome, end_stored, all_up, is_last_finger
 use Rattle.gesture.specs.States.{held_points, centroids, span_rule, pair_rule, most_rule, raw_rule, state_rule}
 use Rattle.gesture.specs.Ticks.{still_down, keys_then_hold, tick_step}
 use Rattle.gesture.specs.Trackers.{whole, keys_at, fresh_tracker, is_active, touched, keyed}
-use Rattle.gesture.specs.declared.record.MultiEnd.TheVariants.{Never}
 use Rattle.gesture.specs.declared.record.Touch.TheVariants as touch
 use Rattle.gesture.specs.declared.record.Tracker.{Tracker}
-use Rattle.gesture.specs.declared.answers.Given.{Given}
-use Rattle.gesture.specs.declared.answers.Given.TheVariants.{Nothing, Gave}
 use Rattle.panel.specs.Axes.{axis_of, lock_of}
 use Rattle.panel.specs.Centroids.{total, mean, middle}
 use Rattle.panel.specs.Distances.{difference, distance, distance2}
@@ -42,7 +41,7 @@ use Rattle.history.specs.Spent.{heard}
 use Rattle.history.proofs.Held.{differ}
 
 -- what is heard of calls on a fresh tracker
-abbrev pub Hears : List Call → List Given → Type 0
+abbrev pub Hears : List Call → List (Option Gesture) → Type 0
 Hears cs gs = heard (history cs) ≡ gs
 
 abbrev pub at : ℕ → ℕ → Point
@@ -68,59 +67,59 @@ pub record Worked : Type 0 where
       Hears
       (two_at 0 (at 100 100) (at 200 100) 0 ∷ two_at 0 (at 80 100) (at 220 100) 50 ∷ one_at 0 (at 80 100) 100 ∷ tick 2000 ∷ no_finger 0 2100
       ∷ one_at 0 (at 80 100) 2150 ∷ tick 5000 ∷ one_at 0 (at 200 100) 5100 ∷ no_finger 0 5200 ∷ one_at 0 (at 80 100) 5300 ∷ no_finger 0 5400 ∷ [])
-      (Nothing ∷ Gave (Pinch H 100 140) ∷ Nothing ∷ Nothing ∷ Gave (PinchEnd true)
-      ∷ Nothing ∷ Nothing ∷ Nothing ∷ Nothing ∷ Gave (Down (at 80 100)) ∷ Gave (Tap (at 80 100)) ∷ [])
+      (None ∷ Some (Pinch H 100 140) ∷ None ∷ None ∷ Some (PinchEnd true)
+      ∷ None ∷ None ∷ None ∷ None ∷ Some (Down (at 80 100)) ∷ Some (Tap (at 80 100)) ∷ [])
   -- 299 ms after the release of several fingers, and 300
   pub at-299 :
       Hears (two_at 0 (at 100 100) (at 200 100) 0 ∷ no_finger 0 1000 ∷ one_at 0 (at 5 5) 1299 ∷ no_finger 0 1350 ∷ [])
-      (Nothing ∷ Nothing ∷ Nothing ∷ Nothing ∷ [])
+      (None ∷ None ∷ None ∷ None ∷ [])
   pub at-300 :
       Hears (two_at 0 (at 100 100) (at 200 100) 0 ∷ no_finger 0 1000 ∷ one_at 0 (at 5 5) 1300 ∷ no_finger 0 1350 ∷ [])
-      (Nothing ∷ Nothing ∷ Gave (Down (at 5 5)) ∷ Gave (Tap (at 5 5)) ∷ [])
+      (None ∷ None ∷ Some (Down (at 5 5)) ∷ Some (Tap (at 5 5)) ∷ [])
   -- a clock that runs back: the release is ahead of it; the exception is used up by the touch it meets
   pub clock-back :
       Hears (two_at 0 (at 100 100) (at 200 100) 0 ∷ no_finger 0 1000 ∷ one_at 0 (at 5 5) 500 ∷ no_finger 0 510 ∷ one_at 0 (at 5 5) 520 ∷ [])
-      (Nothing ∷ Nothing ∷ Nothing ∷ Nothing ∷ Gave (Down (at 5 5)) ∷ [])
+      (None ∷ None ∷ None ∷ None ∷ Some (Down (at 5 5)) ∷ [])
   -- a spent report with two fingers: they are no second finger, and the touch ends in a Tap
   pub spent-two :
       Hears (one_at 0 (at 5 5) 0 ∷ two_at 1 (at 5 5) (at 90 5) 10 ∷ no_finger 1 20 ∷ [])
-      (Gave (Down (at 5 5)) ∷ Gave (KeyDown 0) ∷ Gave (Tap (at 5 5)) ∷ [])
+      (Some (Down (at 5 5)) ∷ Some (KeyDown 0) ∷ Some (Tap (at 5 5)) ∷ [])
   -- a spent report of none does not end a touch: the next finger is no new one
   pub spent-none :
       Hears (one_at 0 (at 5 5) 0 ∷ no_finger 1 10 ∷ one_at 1 (at 5 5) 20 ∷ no_finger 1 30 ∷ [])
-      (Gave (Down (at 5 5)) ∷ Gave (KeyDown 0) ∷ Nothing ∷ Gave (Tap (at 5 5)) ∷ [])
+      (Some (Down (at 5 5)) ∷ Some (KeyDown 0) ∷ None ∷ Some (Tap (at 5 5)) ∷ [])
   -- a residual finger that gains a second: no Cancel; down to one again, still nothing; its release tells what several did
   pub residual-gains :
       Hears
       (two_at 0 (at 100 100) (at 200 100) 0 ∷ no_finger 0 100 ∷ one_at 0 (at 100 100) 200 ∷ two_at 0 (at 100 100) (at 200 100) 300
       ∷ two_at 0 (at 100 170) (at 200 170) 400 ∷ one_at 0 (at 100 170) 500 ∷ tick 3000 ∷ no_finger 0 3100 ∷ one_at 0 (at 9 9) 3400 ∷ [])
-      (Nothing ∷ Nothing ∷ Nothing ∷ Nothing ∷ Nothing ∷ Nothing ∷ Nothing ∷ Gave (MultiSwipeDown 2) ∷ Gave (Down (at 9 9)) ∷ [])
+      (None ∷ None ∷ None ∷ None ∷ None ∷ None ∷ None ∷ Some (MultiSwipeDown 2) ∷ Some (Down (at 9 9)) ∷ [])
   -- a second finger cancels a touch; down to one again it drags nothing, and its release is silent
   pub second-finger :
       Hears
       (one_at 0 (at 100 100) 0 ∷ two_at 0 (at 100 100) (at 200 100) 10 ∷ one_at 0 (at 160 100) 20 ∷ no_finger 0 30 ∷ one_at 0 (at 9 9) 330 ∷ [])
-      (Gave (Down (at 100 100)) ∷ Gave Cancel ∷ Nothing ∷ Nothing ∷ Gave (Down (at 9 9)) ∷ [])
+      (Some (Down (at 100 100)) ∷ Some Cancel ∷ None ∷ None ∷ Some (Down (at 9 9)) ∷ [])
   -- two keys at once and one let go, with a finger: three changes, each told once, the finger unread until they are told;
   -- captures and settings stand between
   pub keys-at-once :
       Hears
       (no_finger 1 0 ∷ one_at 6 (at 5 5) 1 ∷ capture ∷ tick 2 ∷ set_grab_ms 100 ∷ raw_next true ∷ one_at 6 (at 5 5) 3 ∷ one_at 6 (at 5 5) 4 ∷ capture_direct ∷ no_finger 6 5 ∷ [])
-      (Gave (KeyDown 0) ∷ Gave (KeyUp 0) ∷ Nothing ∷ Gave (KeyDown 1) ∷ Nothing ∷ Nothing ∷ Gave (KeyDown 2) ∷ Gave (Down (at 5 5)) ∷ Nothing ∷ Gave (Up (at 5 5)) ∷ [])
+      (Some (KeyDown 0) ∷ Some (KeyUp 0) ∷ None ∷ Some (KeyDown 1) ∷ None ∷ None ∷ Some (KeyDown 2) ∷ Some (Down (at 5 5)) ∷ None ∷ Some (Up (at 5 5)) ∷ [])
   -- a later report does not repeat the mask: the change that was left is never told
   pub mask-not-repeated :
       Hears (no_finger 6 0 ∷ no_finger 0 1 ∷ tick 2 ∷ no_finger 0 3 ∷ [])
-      (Gave (KeyDown 1) ∷ Gave (KeyUp 1) ∷ Nothing ∷ Nothing ∷ [])
+      (Some (KeyDown 1) ∷ Some (KeyUp 1) ∷ None ∷ None ∷ [])
   -- a second report of none is no release: 300 ms are counted from the first
   pub none-again :
       Hears (two_at 0 (at 100 100) (at 200 100) 0 ∷ no_finger 0 100 ∷ no_finger 0 350 ∷ one_at 0 (at 5 5) 400 ∷ [])
-      (Nothing ∷ Nothing ∷ Nothing ∷ Gave (Down (at 5 5)) ∷ [])
+      (None ∷ None ∷ None ∷ Some (Down (at 5 5)) ∷ [])
   -- the trace of document 01
   pub document-trace :
       Hears
       (one_at 0 (at 100 50) 0 ∷ one_at 0 (at 115 50) 10 ∷ one_at 0 (at 116 50) 20 ∷ two_at 0 (at 116 50) (at 176 50) 30 ∷ tick 1000 ∷ no_finger 0 1010
       ∷ one_at 0 (at 100 50) 1309 ∷ no_finger 0 1310 ∷ one_at 0 (at 100 50) 1310 ∷ no_finger 0 1400 ∷ [])
-      (Gave (Down (at 100 50)) ∷ Nothing ∷ Gave (Drag (at 100 50) (at 116 50) H) ∷ Gave Cancel ∷ Nothing ∷ Nothing
-      ∷ Nothing ∷ Nothing ∷ Gave (Down (at 100 50)) ∷ Gave (Tap (at 100 50)) ∷ [])
+      (Some (Down (at 100 50)) ∷ None ∷ Some (Drag (at 100 50) (at 116 50) H) ∷ Some Cancel ∷ None ∷ None
+      ∷ None ∷ None ∷ Some (Down (at 100 50)) ∷ Some (Tap (at 100 50)) ∷ [])
 
 -- Calls in one order and in the other: where they do not commute, and what is heard then.
 
@@ -135,49 +134,49 @@ down = one_at 0 (at 5 5) 0
 abbrev moved : Call
 moved = one_at 0 (at 6 5) 10
 
-abbrev Down5 : Given
-Down5 = Gave (Down (at 5 5))
+abbrev Down5 : Option Gesture
+Down5 = Some (Down (at 5 5))
 
-abbrev Moved6 : Given
-Moved6 = Gave (Move (at 5 5) (at 6 5))
+abbrev Moved6 : Option Gesture
+Moved6 = Some (Move (at 5 5) (at 6 5))
 
 pub record Turned : Type 0 where
   -- an uncaptured touch and the raw wish: behind `capture` its moves come raw, behind `capture_direct` they do not
   pub capture-direct : Apart (down ∷ raw_next true ∷ []) capture capture_direct
-  pub capture-then-direct : Hears (down ∷ raw_next true ∷ capture ∷ capture_direct ∷ moved ∷ []) (Down5 ∷ Nothing ∷ Nothing ∷ Nothing ∷ Moved6 ∷ [])
-  pub direct-then-capture : Hears (down ∷ raw_next true ∷ capture_direct ∷ capture ∷ moved ∷ []) (Down5 ∷ Nothing ∷ Nothing ∷ Nothing ∷ Nothing ∷ [])
+  pub capture-then-direct : Hears (down ∷ raw_next true ∷ capture ∷ capture_direct ∷ moved ∷ []) (Down5 ∷ None ∷ None ∷ None ∷ Moved6 ∷ [])
+  pub direct-then-capture : Hears (down ∷ raw_next true ∷ capture_direct ∷ capture ∷ moved ∷ []) (Down5 ∷ None ∷ None ∷ None ∷ None ∷ [])
   -- a wish behind the capture is for the next one
   pub capture-raw : Apart (down ∷ []) capture (raw_next true)
-  pub capture-then-raw : Hears (down ∷ capture ∷ raw_next true ∷ moved ∷ []) (Down5 ∷ Nothing ∷ Nothing ∷ Nothing ∷ [])
-  pub raw-then-capture : Hears (down ∷ raw_next true ∷ capture ∷ moved ∷ []) (Down5 ∷ Nothing ∷ Nothing ∷ Moved6 ∷ [])
+  pub capture-then-raw : Hears (down ∷ capture ∷ raw_next true ∷ moved ∷ []) (Down5 ∷ None ∷ None ∷ None ∷ [])
+  pub raw-then-capture : Hears (down ∷ raw_next true ∷ capture ∷ moved ∷ []) (Down5 ∷ None ∷ None ∷ Moved6 ∷ [])
   -- a wish withdrawn behind the capture is withdrawn too late
   pub capture-off : Apart (down ∷ raw_next true ∷ []) capture (raw_next false)
-  pub capture-then-off : Hears (down ∷ raw_next true ∷ capture ∷ raw_next false ∷ moved ∷ []) (Down5 ∷ Nothing ∷ Nothing ∷ Nothing ∷ Moved6 ∷ [])
-  pub off-then-capture : Hears (down ∷ raw_next true ∷ raw_next false ∷ capture ∷ moved ∷ []) (Down5 ∷ Nothing ∷ Nothing ∷ Nothing ∷ Nothing ∷ [])
+  pub capture-then-off : Hears (down ∷ raw_next true ∷ capture ∷ raw_next false ∷ moved ∷ []) (Down5 ∷ None ∷ None ∷ None ∷ Moved6 ∷ [])
+  pub off-then-capture : Hears (down ∷ raw_next true ∷ raw_next false ∷ capture ∷ moved ∷ []) (Down5 ∷ None ∷ None ∷ None ∷ None ∷ [])
   -- `capture_direct` clears a wish, where nothing is touched too
   pub direct-raw : Apart [] capture_direct (raw_next true)
-  pub direct-then-raw : Hears (capture_direct ∷ raw_next true ∷ down ∷ capture ∷ moved ∷ []) (Nothing ∷ Nothing ∷ Down5 ∷ Nothing ∷ Moved6 ∷ [])
-  pub raw-then-direct : Hears (raw_next true ∷ capture_direct ∷ down ∷ capture ∷ moved ∷ []) (Nothing ∷ Nothing ∷ Down5 ∷ Nothing ∷ Nothing ∷ [])
+  pub direct-then-raw : Hears (capture_direct ∷ raw_next true ∷ down ∷ capture ∷ moved ∷ []) (None ∷ None ∷ Down5 ∷ None ∷ Moved6 ∷ [])
+  pub raw-then-direct : Hears (raw_next true ∷ capture_direct ∷ down ∷ capture ∷ moved ∷ []) (None ∷ None ∷ Down5 ∷ None ∷ None ∷ [])
   -- a direct touch has no hold, and no Grab
   pub direct-tick : Apart (set_grab_ms 100 ∷ down ∷ []) capture_direct (tick 100)
-  pub direct-then-tick : Hears (set_grab_ms 100 ∷ down ∷ capture_direct ∷ tick 100 ∷ []) (Nothing ∷ Down5 ∷ Nothing ∷ Nothing ∷ [])
-  pub tick-then-direct : Hears (set_grab_ms 100 ∷ down ∷ tick 100 ∷ capture_direct ∷ []) (Nothing ∷ Down5 ∷ Gave (Grab (at 5 5)) ∷ Nothing ∷ [])
+  pub direct-then-tick : Hears (set_grab_ms 100 ∷ down ∷ capture_direct ∷ tick 100 ∷ []) (None ∷ Down5 ∷ None ∷ None ∷ [])
+  pub tick-then-direct : Hears (set_grab_ms 100 ∷ down ∷ tick 100 ∷ capture_direct ∷ []) (None ∷ Down5 ∷ Some (Grab (at 5 5)) ∷ None ∷ [])
   pub raw-raw : Apart [] (raw_next true) (raw_next false)
   pub grab-grab : Apart [] (set_grab_ms 0) (set_grab_ms 100)
   -- with a grab time a long press takes longer
   pub grab-tick : Apart (down ∷ []) (set_grab_ms 5000) (tick 700)
-  pub grab-then-tick : Hears (down ∷ set_grab_ms 5000 ∷ tick 700 ∷ []) (Down5 ∷ Nothing ∷ Nothing ∷ [])
-  pub tick-then-grab : Hears (down ∷ tick 700 ∷ set_grab_ms 5000 ∷ []) (Down5 ∷ Gave (LongPress (at 5 5)) ∷ Nothing ∷ [])
+  pub grab-then-tick : Hears (down ∷ set_grab_ms 5000 ∷ tick 700 ∷ []) (Down5 ∷ None ∷ None ∷ [])
+  pub tick-then-grab : Hears (down ∷ tick 700 ∷ set_grab_ms 5000 ∷ []) (Down5 ∷ Some (LongPress (at 5 5)) ∷ None ∷ [])
   -- a tick gives one gesture: the second is told only if it is due then
   pub tick-tick : Apart (set_grab_ms 100 ∷ down ∷ []) (tick 100) (tick 1200)
-  pub tick-then-later : Hears (set_grab_ms 100 ∷ down ∷ tick 100 ∷ tick 1200 ∷ []) (Nothing ∷ Down5 ∷ Gave (Grab (at 5 5)) ∷ Gave (LongPress (at 5 5)) ∷ [])
-  pub later-then-tick : Hears (set_grab_ms 100 ∷ down ∷ tick 1200 ∷ tick 100 ∷ []) (Nothing ∷ Down5 ∷ Gave (Grab (at 5 5)) ∷ Nothing ∷ [])
+  pub tick-then-later : Hears (set_grab_ms 100 ∷ down ∷ tick 100 ∷ tick 1200 ∷ []) (None ∷ Down5 ∷ Some (Grab (at 5 5)) ∷ Some (LongPress (at 5 5)) ∷ [])
+  pub later-then-tick : Hears (set_grab_ms 100 ∷ down ∷ tick 1200 ∷ tick 100 ∷ []) (None ∷ Down5 ∷ Some (Grab (at 5 5)) ∷ None ∷ [])
   -- Where the order does not count, or the later stands.
   pub capture-again : CaptureTwice (after fresh_tracker (down ∷ raw_next true ∷ []))
-  pub captured-still-raw : Hears (down ∷ raw_next true ∷ capture ∷ capture ∷ moved ∷ []) (Down5 ∷ Nothing ∷ Nothing ∷ Nothing ∷ Moved6 ∷ [])
+  pub captured-still-raw : Hears (down ∷ raw_next true ∷ capture ∷ capture ∷ moved ∷ []) (Down5 ∷ None ∷ None ∷ None ∷ Moved6 ∷ [])
   pub wish-withdrawn : LaterWish fresh_tracker true false
   pub capture-tick : CaptureTick (after fresh_tracker (set_grab_ms 100 ∷ down ∷ raw_next true ∷ [])) 100
-  pub captured-grab : Hears (set_grab_ms 100 ∷ down ∷ capture ∷ tick 100 ∷ tick 1200 ∷ []) (Nothing ∷ Down5 ∷ Nothing ∷ Gave (Grab (at 5 5)) ∷ Gave (LongPress (at 5 5)) ∷ [])
+  pub captured-grab : Hears (set_grab_ms 100 ∷ down ∷ capture ∷ tick 100 ∷ tick 1200 ∷ []) (None ∷ Down5 ∷ None ∷ Some (Grab (at 5 5)) ∷ Some (LongPress (at 5 5)) ∷ [])
   -- the wish meets an uncaptured touch alone
   pub wish-meets : wish_meets_touch (after fresh_tracker (down ∷ raw_next true ∷ [])) ≡ true
   pub wish-alone : wish_meets_touch (after fresh_tracker (raw_next true ∷ [])) ≡ false
@@ -194,7 +193,7 @@ meet z p q = p ∙ sym q
 
 -- a finger at (5, 5) since 0 ms
 abbrev down_with : ℕ → One → App → Tracker
-down_with grab one app = whole (set_grab unset grab) (keys_at 0 0) (touch.Down (at 5 5) 0) one app Never
+down_with grab one app = whole (set_grab unset grab) (keys_at 0 0) (touch.Down (at 5 5) 0) one app None
 
 -- All of them by computing.
 computed : Worked × Turned

@@ -1,8 +1,10 @@
 -- What a tick makes of a finger that is down alone: a Grab, else a LongPress, else nothing; and that what it gives and what
 -- it leaves of the finger tell the same. Assumes nothing.
+use Rattle.std.specs.Prelude.{Option, Some, None}
 use Prim.Native.Nat.{ℕ, ◌-◌}
 use mathlib.Core.Path.{◌≡◌, refl, sym, ap, ap₂, subst, ◌∙◌}
-use mathlib.Core.Bool.{Bool, true, false, not, true≢false}
+use mathlib.Core.Bool.{Bool, true, false, true≢false}
+use borrow.Author.Tests.{not-true}
 use Rattle.fingers.specs.Fields.{set_grabbed, set_long_sent, set_direct}
 use Rattle.fingers.specs.Gestures.{place_of}
 use Rattle.fingers.specs.Holds.{step, hold_of, grab_due, long_due, held_still}
@@ -12,10 +14,9 @@ use Rattle.fingers.specs.declared.one.App.{App}
 use Rattle.fingers.specs.declared.one.One.{One}
 use Rattle.fingers.specs.declared.one.OneStep.{OneStep}
 use Rattle.fingers.specs.declared.settings.Settings.{Settings}
+use Rattle.fingers.specs.declared.gestures.Gesture.{Gesture}
 use Rattle.gesture.specs.Answers.{given_by}
 use Rattle.gesture.specs.Trackers.{is_active}
-use Rattle.gesture.specs.declared.answers.Given.{Given}
-use Rattle.gesture.specs.declared.answers.Given.TheVariants.{Nothing, Gave}
 use Rattle.gesture.specs.declared.record.Touch.{Touch}
 use Rattle.gesture.specs.declared.record.Touch.TheVariants.{Idle, Down, Multi, Residual}
 use Rattle.panel.proofs.Follow.{if-all}
@@ -29,10 +30,6 @@ use Rattle.history.proofs.Parts.{still_by}
 unfoldable pub due : Bool → Bool → Point → One → OneStep
 due grab long start o =
     when◌then◌else◌ grab (step (Gives (Grab start)) (set_grabbed o)) (when◌then◌else◌ long (step (Gives (LongPress start)) (set_long_sent o)) (step Quiet o))
-
-not_so : (b : Bool) → not b ≡ true → b ≡ false
-not_so true e = sym e
-not_so false e = refl
 
 module _ (o : One) (app : App) (set : Settings) (since now : ℕ) where
   abbrev pub grab_now : Bool
@@ -48,21 +45,21 @@ module _ (o : One) (app : App) (set : Settings) (since now : ℕ) where
   -- neither comes twice in a touch
   pub grab-new : grab_now ≡ true → o.grabbed ≡ false
   unfolding grab_due
-  grab-new e = not_so o.grabbed (and_left _ _ (and_right _ _ (and_right _ _ e)))
+  grab-new e = not-true o.grabbed (and_left _ _ (and_right _ _ (and_right _ _ e)))
 
   pub long-new : long_now ≡ true → o.long_sent ≡ false
   unfolding long_due
-  long-new e = not_so o.long_sent (and_left _ _ (and_right _ _ e))
+  long-new e = not-true o.long_sent (and_left _ _ (and_right _ _ e))
 
 -- Which of them was given, by its place in the list of gestures, and that neither is the other or nothing.
 
-abbrev pub is_grab : Given → Bool
-is_grab Nothing = false
-is_grab (Gave g) = place_of g =? 4
+abbrev pub is_grab : Option Gesture → Bool
+is_grab None = false
+is_grab (Some g) = place_of g =? 4
 
-abbrev pub is_long : Given → Bool
-is_long Nothing = false
-is_long (Gave g) = place_of g =? 2
+abbrev pub is_long : Option Gesture → Bool
+is_long None = false
+is_long (Some g) = place_of g =? 2
 
 abbrev grabbed : One → Bool
 grabbed o = o.grabbed
@@ -125,7 +122,7 @@ still-same (Down start since) o app app' set set' now d g =
 -- A touch that becomes direct: no hold, and so no Grab, whatever the grab time.
 
 abbrev pub GivesNoGrab : OneStep → Type 0
-GivesNoGrab s = (p : Point) → given_by s.out ≡ Gave (Grab p) → ⊥
+GivesNoGrab s = (p : Point) → given_by s.out ≡ Some (Grab p) → ⊥
 
 module _ (start : Point) (o : One) where
   none-due : (l : Bool) → GivesNoGrab (due false l start o)

@@ -9,10 +9,11 @@ use native.Mathlib.Nat.{not-suc-le-zero, mod-lt, zero-lt-suc}
 use lib.Dec.{T, ltb, eqb, ltb→lt, eqb→eq}
 use lib.Count.{count_trailing_zeros}
 use lib.Bits.{and_le_l}
-use borrow.Author.Tests.{eqb-true, eq-eqb}
+use borrow.Author.Tests.{not-true, eqb-true, eq-eqb}
 use Rattle.fingers.proofs.Bytes.{both, both_left, both_right, every, below, lowest-is-set}
 use Rattle.fingers.proofs.KeyMasks.{bit_at, without-bit, flipped-bit, flipped-rest}
 use Rattle.fingers.specs.Keys.{without, lowest, flipped}
+use Rattle.panel.proofs.Laws.{and_left, and_right}
 use Rattle.panel.specs.Tests.{when◌then◌else◌, ◌and◌}
 use Rattle.history.specs.Keys.{has, filter, all_keys, lacking}
 
@@ -187,20 +188,9 @@ module _ (a b c : ℕ) (ha : a < 256) (hb : b < 256) (hc : c < 8) where
       (λ e k. ap (λ (x : Bool). ◌and◌ x (not (has b e))) (has-flip a c e hc k) ∙ in-other (has a e) (has b e) (eqb c e) (hit a e false p) (hit b e true q))
 
 -- a key that is in what a has and b lacks
-and-1 : (p q : Bool) → ◌and◌ p (not q) ≡ true → p ≡ true
-unfolding ◌and◌
-and-1 true q e = refl
-and-1 false q e = e
-
-and-2 : (p q : Bool) → ◌and◌ p (not q) ≡ true → q ≡ false
-unfolding ◌and◌
-and-2 true true e = sym e
-and-2 true false e = refl
-and-2 false true e = sym e
-and-2 false false e = refl
 
 pub in-first : (a b c : ℕ) → b < 256 → c < 8 → has (without a b) c ≡ true → has a c ≡ true
-in-first a b c h k e = and-1 (has a c) (has b c) (sym (has-lacks a b c h k) ∙ e)
+in-first a b c h k e = and_left _ _ (sym (has-lacks a b c h k) ∙ e)
 
 pub not-second : (a b c : ℕ) → b < 256 → c < 8 → has (without a b) c ≡ true → has b c ≡ false
-not-second a b c h k e = and-2 (has a c) (has b c) (sym (has-lacks a b c h k) ∙ e)
+not-second a b c h k e = not-true _ (and_right _ _ (sym (has-lacks a b c h k) ∙ e))

@@ -1,4 +1,5 @@
 -- The key step tells the first of the changes that are left, and nothing where none is. Assumes nothing.
+use Rattle.std.specs.Prelude.{Option, Some, None}
 use Prim.Native.Nat.{ℕ, zero, ◌<◌}
 use mathlib.Core.Path.{◌≡◌, refl, sym, subst, ap, ◌∙◌}
 use mathlib.Core.Bool.{true, false}
@@ -12,23 +13,25 @@ use Rattle.fingers.proofs.Bytes.{lowest-lt}
 use Rattle.fingers.specs.Keys.{without, lowest, flipped, key_step}
 use Rattle.fingers.specs.declared.gestures.Gesture.{Gesture}
 use Rattle.fingers.specs.declared.gestures.Gesture.TheVariants.{KeyUp, KeyDown}
-use Rattle.fingers.specs.declared.keys.KeyStep.{KeyStep}
-use Rattle.fingers.specs.declared.keys.KeyStep.TheVariants.{Same, Flipped}
 use Rattle.panel.proofs.Follow.{if-true, if-false}
 use Rattle.panel.specs.Tests.{when◌then◌else◌}
 use Rattle.history.specs.Keys.{has, filter, all_keys, lacking, changes, told_by}
 use Rattle.history.proofs.KeyBits.{flip_is, flip-lt, low-has, low-keys, no_keys, more-is, lacks-lt, out-more, out-others, in-more, in-others, in-first, not-second}
 
+-- what a key step comes to: the change that it tells, with the mask told after it, or none
+abbrev pub KeyStep : Type 0
+KeyStep = Option (Gesture × ℕ)
+
 -- from the mask a told to the mask b wanted: g is told, and gs are left after it
 pub record Tells (a b : ℕ) (g : Gesture) (gs : List Gesture) (k : KeyStep) : Type 0 where
-  pub is : k ≡ Flipped g (told_by a g)
+  pub is : k ≡ Some (g, told_by a g)
   pub key : is_key_change g ≡ true
   pub one : is_one_finger g ≡ false
   pub byte : told_by a g < 256
   pub rest : changes (told_by a g) b ≡ gs
 
 abbrev pub KeyIs : ℕ → ℕ → List Gesture → KeyStep → Type 0
-KeyIs a b [] k = k ≡ Same
+KeyIs a b [] k = k ≡ None
 KeyIs a b (g ∷ gs) k = Tells a b g gs k
 
 told-up : (a c : ℕ) → a < 256 → c < 8 → has a c ≡ true → told_by a (KeyUp c) ≡ flipped a c
@@ -39,7 +42,7 @@ told-down : (a c : ℕ) → a < 256 → c < 8 → has a c ≡ false → told_by 
 unfolding when◌then◌else◌
 told-down a c h k e = rw (flip_is a c h k, e)
 
-made : (a b : ℕ) (g : Gesture) (gs : List Gesture) (k : KeyStep) (a' : ℕ) → told_by a g ≡ a' → k ≡ Flipped g a' → is_key_change g ≡ true → is_one_finger g ≡ false → a' < 256 → changes a' b ≡ gs → Tells a b g gs k
+made : (a b : ℕ) (g : Gesture) (gs : List Gesture) (k : KeyStep) (a' : ℕ) → told_by a g ≡ a' → k ≡ Some (g, a') → is_key_change g ≡ true → is_one_finger g ≡ false → a' < 256 → changes a' b ≡ gs → Tells a b g gs k
 made a b g gs k a' e p q r s t = record { is = rw e p; key = q; one = r; byte = rw e s; rest = rw e t }
 
 -- a release is left

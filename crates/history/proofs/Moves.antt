@@ -1,4 +1,5 @@
 -- How a report's fingers and a tick move the tracker and an observer of calls and answers together. Assumes nothing.
+use Rattle.std.specs.Prelude.{Option, Some, None}
 use Prim.Native.Nat.{ℕ, ◌+◌, ◌-◌}
 use mathlib.Core.Path.{◌≡◌, refl, sym, ap, subst, ◌∙◌}
 use mathlib.Core.Bool.{Bool, true, false, not, true≢false}
@@ -14,14 +15,11 @@ use Rattle.gesture.specs.Reports.{up_outcome, end_stored, all_up, is_last_finger
 use Rattle.gesture.specs.Reports as reports
 use Rattle.gesture.specs.Ticks.{still_down}
 use Rattle.gesture.specs.Trackers.{whole, touched}
-use Rattle.gesture.specs.declared.answers.Given.TheVariants.{Gave}
-use Rattle.gesture.specs.declared.record.MultiEnd.{MultiEnd}
-use Rattle.gesture.specs.declared.record.MultiEnd.TheVariants as end
 use Rattle.gesture.specs.declared.record.Step.{Step}
 use Rattle.gesture.specs.declared.record.Touch as record-touch
 use Rattle.gesture.specs.declared.record.Touch.TheVariants as touch
 use Rattle.gesture.specs.declared.record.Tracker.{Tracker}
-use Rattle.panel.proofs.Follow.{if-true, if-false, if-know, if-two, if-all}
+use Rattle.panel.proofs.Follow.{or-false, if-true, if-false, if-know, if-two, if-all}
 use Rattle.panel.specs.Tests.{◌and◌, ◌or◌, ◌<?◌}
 use Rattle.panel.specs.Tests as tests
 use Rattle.panel.specs.declared.points.Event.{Event}
@@ -39,15 +37,15 @@ Fits touch.Residual o = o ≡ on (record { several = false; one = true; excepted
 Fits (touch.Multi m pair) o = had_several o ≡ true
 
 -- The stored end of several fingers, and the touch before.
-abbrev pub EndFits : record-touch.Touch → MultiEnd → Before → Type 0
-EndFits touch.Idle end.Never plain = Unit {0}
-EndFits touch.Idle end.Never (many_until release) = ⊥
-EndFits touch.Idle (end.At e) plain = ⊥
-EndFits touch.Idle (end.At e) (many_until release) = e ≡ release
-EndFits (touch.Down start since) end.Never b = Unit {0}
-EndFits (touch.Down start since) (end.At e) b = ⊥
-EndFits touch.Residual end.Never b = Unit {0}
-EndFits touch.Residual (end.At e) b = ⊥
+abbrev pub EndFits : record-touch.Touch → Option ℕ → Before → Type 0
+EndFits touch.Idle None plain = Unit {0}
+EndFits touch.Idle None (many_until release) = ⊥
+EndFits touch.Idle (Some e) plain = ⊥
+EndFits touch.Idle (Some e) (many_until release) = e ≡ release
+EndFits (touch.Down start since) None b = Unit {0}
+EndFits (touch.Down start since) (Some e) b = ⊥
+EndFits touch.Residual None b = Unit {0}
+EndFits touch.Residual (Some e) b = ⊥
 EndFits (touch.Multi m pair) e b = Unit {0}
 
 -- what fingers do: no key is told of, and the two stay together
@@ -77,14 +75,7 @@ never-more false = refl
 
 -- hypotheses that cannot be
 neither : (a b : Bool) → a ≡ false → b ≡ false → ◌or◌ a b ≡ true → ⊥
-unfolding tests.◌or◌
-neither true b p q e = true≢false p
-neither false b p q e = true≢false (sym e ∙ q)
-
-second : (a b : Bool) → a ≡ false → ◌or◌ a b ≡ true → b ≡ true
-unfolding tests.◌or◌
-second true b p e = no_way p
-second false b p e = e
+neither a b p q e = true≢false (sym e ∙ or-false a b p ∙ q)
 
 excepted-several : (t : Touch) → t.several ≡ true → ◌and◌ t.excepted (not t.several) ≡ false
 excepted-several t e = ap (λ (x : Bool). ◌and◌ t.excepted (not x)) e ∙ never-more t.excepted
@@ -104,13 +95,13 @@ never-excepted off e = refl
 never-excepted (on u) e = excepted-several u e
 
 -- after a touch of one finger no end of several is stored
-after-residual : (e : MultiEnd) (b : Before) → EndFits touch.Residual e b → EndFits touch.Idle e plain
-after-residual end.Never b h = tt
-after-residual (end.At x) b h = absurd h
+after-residual : (e : Option ℕ) (b : Before) → EndFits touch.Residual e b → EndFits touch.Idle e plain
+after-residual None b h = tt
+after-residual (Some x) b h = absurd h
 
-after-down : (start : Point) (since : ℕ) (e : MultiEnd) (b : Before) → EndFits (touch.Down start since) e b → EndFits touch.Idle e plain
-after-down start since end.Never b h = tt
-after-down start since (end.At x) b h = absurd h
+after-down : (start : Point) (since : ℕ) (e : Option ℕ) (b : Before) → EndFits (touch.Down start since) e b → EndFits touch.Idle e plain
+after-down start since None b h = tt
+after-down start since (Some x) b h = absurd h
 
 -- Count 0.
 
@@ -147,7 +138,7 @@ module _ (s : Seen) (now : ℕ) where
     want = refl;
     seen = refl;
     touch = refl;
-    end = subst (λ (b : Before). EndFits touch.Idle (end.At now) b) (sym (over-several s.touch s.before now f)) refl;
+    end = subst (λ (b : Before). EndFits touch.Idle (Some now) b) (sym (over-several s.touch s.before now f)) refl;
     several = λ h. (end-plain m pair).1;
     excepted = λ h. absurd (neither false (excepted_never_more s.touch) refl (never-excepted s.touch f) h);
   }
@@ -176,12 +167,12 @@ gap_same now e = go (now <? e + gap) refl
     go true q = lt-ltb (now - e) lift_gap (omega (arith, ltb-true now (e + gap) q)) ∙ sym q
     go false q = le-ltb (now - e) lift_gap (omega (arith, ltb-false now (e + gap) q)) ∙ sym q
 
-last-is-close : (e : MultiEnd) (b : Before) (now : ℕ) → EndFits touch.Idle e b → is_last_finger e now ≡ close b now
+last-is-close : (e : Option ℕ) (b : Before) (now : ℕ) → EndFits touch.Idle e b → is_last_finger e now ≡ close b now
 unfolding is_last_finger
-last-is-close end.Never plain now h = refl
-last-is-close end.Never (many_until r) now h = absurd h
-last-is-close (end.At x) plain now h = absurd h
-last-is-close (end.At x) (many_until r) now h = gap_same now x ∙ ap (λ (n : ℕ). now <? n + gap) h
+last-is-close None plain now h = refl
+last-is-close None (many_until r) now h = absurd h
+last-is-close (Some x) plain now h = absurd h
+last-is-close (Some x) (many_until r) now h = gap_same now x ∙ ap (λ (n : ℕ). now <? n + gap) h
 
 module _ (s : Seen) (now : ℕ) where
   -- what is seen of a report with one finger
@@ -267,7 +258,7 @@ module _ (s : Seen) (now : ℕ) where
     touch = several-now s.touch;
     end = tt;
     several = λ h. n.1;
-    excepted = λ h. ex (second (excepted_with_one many.touch) (excepted_never_more s.touch) (with-several-none s.touch) h);
+    excepted = λ h. ex (sym (or-false _ _ (with-several-none s.touch)) ∙ h);
   }
 
   never : {P : Type 0} → excepted_never_more s.touch ≡ false → excepted_never_more s.touch ≡ true → P
@@ -300,11 +291,11 @@ fingers-moved t s ev now f e =
 
 -- "A touch that starts with one finger gives Down at once, unless ..".
 pub starts-down : (t : Tracker) (s : Seen) (ev : Event) (now : ℕ) → Fits t.touch s.touch → EndFits t.touch t.multi_end s.before →
-    s.touch ≡ off → ev.points ≡ 1 → close s.before now ≡ false → given_by (fingers_of t ev now).out ≡ Gave (Down ev.p)
+    s.touch ≡ off → ev.points ≡ 1 → close s.before now ≡ false → given_by (fingers_of t ev now).out ≡ Some (Down ev.p)
 unfolding fingers_of one_finger touch_down new_touch given_by
 starts-down t s ev now f e o n c = go t.touch refl f e
   where
-    go : (x : record-touch.Touch) → t.touch ≡ x → Fits x s.touch → EndFits x t.multi_end s.before → given_by (fingers_of t ev now).out ≡ Gave (Down ev.p)
+    go : (x : record-touch.Touch) → t.touch ≡ x → Fits x s.touch → EndFits x t.multi_end s.before → given_by (fingers_of t ev now).out ≡ Some (Down ev.p)
     go touch.Idle q g h =
         ap (λ (st : Step). given_by st.out)
         (if-false _ _ _ (ne_eqb ev.points 0 (λ z. omega arith))

@@ -3,7 +3,7 @@ use mathlib.Core.Path.{◌≡◌, sym, ap, ◌∙◌}
 use mathlib.Core.Bool.{true, false}
 use mathlib.Core.List.{List, [], ◌∷◌}
 use Rattle.gesture.proofs.Keeps.{fresh_kept, call_kept}
-use Rattle.gesture.proofs.Promises.{event-tells, tick-tells, capture-tells, capture-direct-tells, raw-next-tells, set-grab-tells}
+use Rattle.gesture.specs.Answers.{refused, event_of, tick_of, capture_of, capture_direct_of, raw_next_of, set_grab_of}
 use Rattle.gesture.specs.Calls.{Call, report, tick, capture, capture_direct, raw_next, set_grab_ms, answer_of}
 use Rattle.gesture.specs.Runs.{run, after}
 use Rattle.gesture.specs.States.{state_rule}
@@ -58,12 +58,13 @@ afterwards t c d same ds = ap (λ (u : Tracker). run u ds) same
 -- On a tracker that breaks the state rule every call is refused and leaves it as it is: there any order leaves the same.
 
 refused-leaves : (t : Tracker) (c : Call) → state_rule t ≡ false → (answer_of t c).tracker ≡ t
-refused-leaves t (report now ev) h = ap tracker_of (event-tells t ev now ∙ if-false _ _ _ h)
-refused-leaves t (tick now) h = ap tracker_of (tick-tells t now ∙ if-false _ _ _ h)
-refused-leaves t capture h = ap tracker_of (capture-tells t ∙ if-false _ _ _ h)
-refused-leaves t capture_direct h = ap tracker_of (capture-direct-tells t ∙ if-false _ _ _ h)
-refused-leaves t (raw_next on) h = ap tracker_of (raw-next-tells t on ∙ if-false _ _ _ h)
-refused-leaves t (set_grab_ms ms) h = ap tracker_of (set-grab-tells t ms ∙ if-false _ _ _ h)
+unfolding event_of tick_of capture_of capture_direct_of raw_next_of set_grab_of refused
+refused-leaves t (report now ev) h = ap tracker_of (if-false _ _ _ h)
+refused-leaves t (tick now) h = ap tracker_of (if-false _ _ _ h)
+refused-leaves t capture h = ap tracker_of (if-false _ _ _ h)
+refused-leaves t capture_direct h = ap tracker_of (if-false _ _ _ h)
+refused-leaves t (raw_next on) h = ap tracker_of (if-false _ _ _ h)
+refused-leaves t (set_grab_ms ms) h = ap tracker_of (if-false _ _ _ h)
 
 two-refused : (t : Tracker) (c d : Call) → state_rule t ≡ false → after t (c ∷ d ∷ []) ≡ t
 unfolding after

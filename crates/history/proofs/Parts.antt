@@ -1,6 +1,7 @@
 -- What the captures, the settings and a tick leave of a tracker that keeps the state rule, part by part: a capture or a
 -- setting leaves other settings and what the app made of the touch, by these and by whether a touch is on; a tick leaves other
 -- keys and what the one finger did. Assumes nothing.
+use Rattle.std.specs.Prelude.{Option, Some, None}
 use Prim.Native.Nat.{ℕ, min}
 use mathlib.Core.Path.{◌≡◌, refl, sym, ap, ◌∙◌}
 use mathlib.Core.Bool.{true, false}
@@ -14,14 +15,13 @@ use Rattle.fingers.specs.Thresholds.{grab_most}
 use Rattle.fingers.specs.declared.gestures.Outcome.{Outcome}
 use Rattle.fingers.specs.declared.gestures.Outcome.TheVariants.{Quiet, Gives}
 use Rattle.fingers.specs.declared.keys.Keys.{Keys}
-use Rattle.fingers.specs.declared.keys.KeyStep.{KeyStep}
-use Rattle.fingers.specs.declared.keys.KeyStep.TheVariants.{Same, Flipped}
 use Rattle.fingers.specs.declared.one.App.{App}
 use Rattle.fingers.specs.declared.one.One.{One}
 use Rattle.fingers.specs.declared.one.OneStep.{OneStep}
 use Rattle.fingers.specs.declared.settings.Settings.{Settings}
+use Rattle.fingers.specs.declared.gestures.Gesture.{Gesture}
 use Rattle.gesture.proofs.Keeps.{call_kept}
-use Rattle.gesture.specs.Answers.{answered, given_by, captured, capture_of, capture_direct_of, raw_next_of, set_grab_of, ticked, tick_of}
+use Rattle.gesture.specs.Answers.{refusal_of, given, logged_by, answered, given_by, captured, capture_of, capture_direct_of, raw_next_of, set_grab_of, ticked, tick_of}
 use Rattle.gesture.specs.Calls.{Call, report, tick, capture, capture_direct, raw_next, set_grab_ms, answer_of}
 use Rattle.gesture.specs.Captures.{owned, settled, takes, taken, wished, after_capture_direct, after_set_grab}
 use Rattle.gesture.specs.Lines.{tick_line}
@@ -31,8 +31,6 @@ use Rattle.gesture.specs.States.{state_rule}
 use Rattle.gesture.specs.Ticks.{still_down, keys_then_hold, tick_step}
 use Rattle.gesture.specs.Trackers.{whole, is_active, step, keys_at, touched, keyed}
 use Rattle.gesture.specs.declared.answers.Answer.{Answer}
-use Rattle.gesture.specs.declared.answers.Given.{Given}
-use Rattle.gesture.specs.declared.lines.Log.{Log}
 use Rattle.gesture.specs.declared.record.Step.{Step}
 use Rattle.gesture.specs.declared.record.Touch.{Touch}
 use Rattle.gesture.specs.declared.record.Touch.TheVariants.{Idle, Down, Multi, Residual}
@@ -40,6 +38,7 @@ use Rattle.gesture.specs.declared.record.Tracker.{Tracker}
 use Rattle.panel.proofs.Follow.{if-of, if-true}
 use Rattle.panel.specs.Tests.{when◌then◌else◌}
 use Rattle.history.specs.Orders.{Setting}
+use Rattle.history.proofs.KeyLaw.{KeyStep}
 
 -- What a call tells, or leaves, of every tracker that keeps the rule; and behind another call.
 
@@ -48,15 +47,6 @@ Tells c what by = (t : Tracker) → state_rule t ≡ true → what (answer_of t 
 
 abbrev pub tracker_of : Answer → Tracker
 tracker_of a = a.tracker
-
-abbrev pub given_of : Answer → Given
-given_of a = a.gesture
-
-abbrev pub refusal_of : Answer → ℕ
-refusal_of a = a.refusal
-
-abbrev pub log_of : Answer → Log
-log_of a = a.log
 
 pub behind : {A : Type 0} (what : Answer → A) (c d : Call) (leaves : Tracker → Tracker) (by : Tracker → A) → Tells c tracker_of leaves → Tells d what by →
     (t : Tracker) → state_rule t ≡ true → what (answer_of (after t (c ∷ [])) d) ≡ by (leaves t)
@@ -114,16 +104,16 @@ still_by (Multi m pair) one app set now = holds.step Quiet one
 still_by Residual one app set now = holds.step Quiet one
 
 abbrev pub out_by : KeyStep → OneStep → Outcome
-out_by (Flipped g told) s = Gives g
-out_by Same s = s.out
+out_by (Some (g, told)) s = Gives g
+out_by None s = s.out
 
 abbrev pub keys_by : KeyStep → Keys → Keys
-keys_by (Flipped g told) keys = keys_at told keys.wanted
-keys_by Same keys = keys
+keys_by (Some (g, told)) keys = keys_at told keys.wanted
+keys_by None keys = keys
 
 abbrev pub one_by : KeyStep → One → OneStep → One
-one_by (Flipped g told) one s = one
-one_by Same one s = s.one
+one_by (Some (g, told)) one s = one
+one_by None one s = s.one
 
 -- a tracker with other keys, and something else that the finger did
 unfoldable pub marked : Tracker → Keys → One → Tracker
@@ -157,11 +147,11 @@ still-is (Down start since) t now e =
 
 key-is : (k : KeyStep) (t : Tracker) (now : ℕ) → keys_then_hold k t now ≡ step (out_by k (still_of t now)) (marked t (keys_by k t.keys) (one_by k t.one (still_of t now)))
 unfolding keys_then_hold keyed marked
-key-is (Flipped g told) t now = refl
-key-is Same t now = still-is t.touch t now refl
+key-is (Some (g, told)) t now = refl
+key-is None t now = still-is t.touch t now refl
 
 -- what a tick gives, and the tracker that it leaves
-abbrev pub given_in : Tracker → ℕ → Given
+abbrev pub given_in : Tracker → ℕ → Option Gesture
 given_in t now = given_by (out_by (key_of t) (still_of t now))
 
 abbrev pub one_in : Tracker → ℕ → One
@@ -178,13 +168,13 @@ pub tick-leaves : (now : ℕ) → Tells (tick now) tracker_of (λ (t : Tracker).
 unfolding ticked answered
 tick-leaves now t h = ap tracker_of (tick-answers now t h)
 
-pub tick-logs : (now : ℕ) → Tells (tick now) log_of (λ (t : Tracker). tick_line (out_by (key_of t) (still_of t now)) now)
+pub tick-logs : (now : ℕ) → Tells (tick now) logged_by (λ (t : Tracker). tick_line (out_by (key_of t) (still_of t now)) now)
 unfolding ticked answered
-tick-logs now t h = ap log_of (tick-answers now t h)
+tick-logs now t h = ap logged_by (tick-answers now t h)
 
-pub tick_gives : (now : ℕ) → Tells (tick now) given_of (λ (t : Tracker). given_in t now)
+pub tick_gives : (now : ℕ) → Tells (tick now) given (λ (t : Tracker). given_in t now)
 unfolding ticked answered
-tick_gives now t h = ap given_of (tick-answers now t h)
+tick_gives now t h = ap given (tick-answers now t h)
 
 pub tick-answered : (now : ℕ) → Tells (tick now) refusal_of (λ (t : Tracker). 0)
 unfolding ticked answered

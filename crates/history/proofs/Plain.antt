@@ -1,9 +1,9 @@
 -- What fingers and the clock are answered with: never a key change, and with several fingers no one-finger gesture.
 -- Assumes nothing.
+use Rattle.std.specs.Prelude.{Option, Some, None}
 use Prim.Native.Nat.{ℕ}
 use mathlib.Core.Path.{◌≡◌, refl}
 use mathlib.Core.Bool.{false}
-use Rattle.panel.proofs.Follow.{if-all}
 use Rattle.fingers.specs.Holds.{held_still}
 use Rattle.fingers.specs.OneFinger.{move_from, drag_along, moving, grab_or_moving, later_report}
 use Rattle.fingers.specs.Pairs.{pinch_of}
@@ -14,14 +14,13 @@ use Rattle.fingers.specs.declared.one.One.{One}
 use Rattle.fingers.specs.declared.one.App.{App}
 use Rattle.fingers.specs.declared.settings.Settings.{Settings}
 use Rattle.fingers.specs.declared.one.OneStep.{OneStep}
-use Rattle.fingers.specs.declared.pair.Pairing.{Pairing}
-use Rattle.fingers.specs.declared.pair.Pairing.TheVariants.{Unpaired, Paired}
 use Rattle.fingers.specs.declared.several.Multi.{Multi}
 use Rattle.fingers.specs.declared.several.MultiStep.{MultiStep}
-use Rattle.gesture.specs.Answers.{given_by}
-use Rattle.panel.specs.declared.axes.AxisLock.{AxisLock}
-use Rattle.panel.specs.declared.axes.AxisLock.TheVariants.{Free, On}
+use Rattle.fingers.specs.declared.pair.Pair.{Pair}
+use Rattle.panel.proofs.Follow.{if-all}
 use Rattle.panel.specs.declared.points.Point.{Point}
+use Rattle.panel.specs.declared.axes.Axis.{Axis}
+use Rattle.gesture.specs.Answers.{given_by}
 use Rattle.history.specs.Gestures.{gives_one_finger, tells_key}
 
 -- no key change
@@ -40,10 +39,10 @@ NoOneStep s = NoOne s.out
 
 -- One finger.
 
-drag-plain : (a : AxisLock) (o : One) (start p : Point) → NoKeyStep (drag_along a o start p)
+drag-plain : (a : Option Axis) (o : One) (start p : Point) → NoKeyStep (drag_along a o start p)
 unfolding drag_along given_by
-drag-plain Free o start p = refl
-drag-plain (On a) o start p = refl
+drag-plain None o start p = refl
+drag-plain (Some a) o start p = refl
 
 pub later-plain : (o : One) (app : App) (start : Point) (since : ℕ) (p : Point) (now : ℕ) (set : Settings) → NoKeyStep (later_report o app start since p now set)
 unfolding later_report grab_or_moving moving move_from given_by
@@ -69,16 +68,16 @@ release-plain o app start since now =
 
 -- Several fingers.
 
-pub end-plain : (m : Multi) (pair : Pairing) → NoOne (multi_end m pair)
+pub end-plain : (m : Multi) (pair : Option Pair) → NoOne (multi_end m pair)
 unfolding multi_end multi_rule given_by
 end-plain m pair = if-all NoOne _ (refl, refl) (if-all NoOne _ (refl, refl) (refl, refl))
 
-pub two-plain : (pair : Pairing) (m : Multi) (p q c : Point) (now : ℕ) → NoOneStep (two_fingers pair m p q c now)
+pub two-plain : (pair : Option Pair) (m : Multi) (p q c : Point) (now : ℕ) → NoOneStep (two_fingers pair m p q c now)
 unfolding two_fingers pinch_or_seen pinch_of given_by
-two-plain Unpaired m p q c now = (refl, refl)
-two-plain (Paired r) m p q c now = if-all NoOneStep _ (refl, refl) (refl, refl)
+two-plain None m p q c now = (refl, refl)
+two-plain (Some r) m p q c now = if-all NoOneStep _ (refl, refl) (refl, refl)
 
-pub three-plain : (pair : Pairing) (m : Multi) (n : ℕ) (c : Point) (now : ℕ) → NoOneStep (three_fingers pair m n c now)
+pub three-plain : (pair : Option Pair) (m : Multi) (n : ℕ) (c : Point) (now : ℕ) → NoOneStep (three_fingers pair m n c now)
 unfolding three_fingers pinch_end_or_seen given_by
-three-plain Unpaired m n c now = (refl, refl)
-three-plain (Paired r) m n c now = if-all NoOneStep _ (refl, refl) (refl, refl)
+three-plain None m n c now = (refl, refl)
+three-plain (Some r) m n c now = if-all NoOneStep _ (refl, refl) (refl, refl)

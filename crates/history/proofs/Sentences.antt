@@ -1,6 +1,7 @@
 -- Demand 3 in parts, one theorem to a sentence, each at any place of any history of accepted calls: read off `demand-3` of
 -- proofs/Demanded.antt, which joins them. The sentence on spent reports is `spent-fingers` of proofs/Unread.antt. Assumes
 -- nothing.
+use Rattle.std.specs.Prelude.{Option, Some}
 use Prim.Native.Nat.{ℕ, suc, ◌≤◌}
 use mathlib.Core.Path.{◌≡◌, refl, sym, ap, ap₂, subst, ◌∙◌}
 use mathlib.Core.Bool.{true, false}
@@ -12,8 +13,6 @@ use borrow.Author.Tests.{eq-eqb, ne_eqb}
 use Rattle.fingers.specs.declared.gestures.Gesture.{Gesture}
 use Rattle.fingers.specs.declared.gestures.Gesture.TheVariants.{Down}
 use Rattle.gesture.specs.Calls.{Call, report, tick, capture, capture_direct, raw_next, set_grab_ms}
-use Rattle.gesture.specs.declared.answers.Given.{Given}
-use Rattle.gesture.specs.declared.answers.Given.TheVariants.{Gave}
 use Rattle.panel.proofs.Follow.{if-true, if-false, if-all}
 use Rattle.panel.specs.Tests.{◌or◌}
 use Rattle.panel.specs.declared.points.Event.{Event}
@@ -33,16 +32,16 @@ use Rattle.history.proofs.Unread.{spent-fingers}
 abbrev Onward : ℕ → List Said → Type 0
 Onward mask xs = (left : List Gesture) → TellsAll mask left xs → length left ≤ length (answers xs) → InFull left (answers xs)
 
-in-turn : (mask : ℕ) (g : Given) (xs : List Said) (left : List Gesture) → NextChange left g (λ left. TellsAll mask left xs) → Onward mask xs → length left ≤ suc (length (answers xs)) →
+in-turn : (mask : ℕ) (g : Option Gesture) (xs : List Said) (left : List Gesture) → NextChange left g (λ left. TellsAll mask left xs) → Onward mask xs → length left ≤ suc (length (answers xs)) →
     InFull left (g ∷ answers xs)
 in-turn mask g xs [] h onward enough =
     let r = onward [] h.1 (omega arith) in
-    (g ∷ r.0, ap (λ (l : List Given). g ∷ l) r.1, (h.0, r.2))
+    (g ∷ r.0, ap (λ (l : List (Option Gesture)). g ∷ l) r.1, (h.0, r.2))
 in-turn mask g xs (change ∷ left) h onward enough =
     let r = onward left h.1 (omega (arith, enough)) in
-    (r.0, ap₂ (λ (x : Given) (l : List Given). x ∷ l) h.0 r.1, r.2)
+    (r.0, ap₂ (λ (x : Option Gesture) (l : List (Option Gesture)). x ∷ l) h.0 r.1, r.2)
 
-full_at : (mask : ℕ) (c : Call) (g : Given) (xs : List Said) → Onward mask xs → (left : List Gesture) → Tells left c g (λ left. TellsAll mask left xs) →
+full_at : (mask : ℕ) (c : Call) (g : Option Gesture) (xs : List Said) → Onward mask xs → (left : List Gesture) → Tells left c g (λ left. TellsAll mask left xs) →
     length left ≤ length (and_answer c g (answers xs)) → InFull left (and_answer c g (answers xs))
 full_at mask (report now ev) g xs onward left h enough = in-turn mask g xs left h onward enough
 full_at mask (tick now) g xs onward left h enough = in-turn mask g xs left h onward enough
@@ -121,7 +120,7 @@ module _ (xs : List Said) (x : Said) (ys : List Said) (place : Place xs x ys) wh
   -- "A touch that starts with one finger gives Down at once, unless the touch before it had several and its release is
   -- under 300 ms back or ahead of the clock."
   pub down-at-once : (now : ℕ) (ev : Event) → x.call ≡ report now ev → tells_key x.given ≡ false → knew.touch ≡ off → ev.points ≡ 1 → close knew.before now ≡ false →
-      x.given ≡ Gave (Down ev.p)
+      x.given ≡ Some (Down ev.p)
   down-at-once now ev e = subst (λ (c : Call). DownAtOnce (known start xs) c x.given) e promised.down
 
   -- "A touch so excepted tells key changes and nothing more while it has one finger."

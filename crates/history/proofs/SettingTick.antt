@@ -1,5 +1,6 @@
 -- A capture or a setting and a tick, and the same the other way round. They set other parts of the tracker, so that all
 -- hangs on what the tick makes of a finger that is down alone. Assumes nothing.
+use Rattle.std.specs.Prelude.{Option, Some, None}
 use Prim.Native.Nat.{ℕ}
 use mathlib.Core.Path.{◌≡◌, refl, sym, ap, ap₂, ◌∙◌}
 use mathlib.Core.Bool.{Bool, true, false}
@@ -8,33 +9,31 @@ use Rattle.fingers.specs.Fields.{set_captured}
 use Rattle.fingers.specs.Keys.{key_step}
 use Rattle.fingers.specs.Settings.{set_raw}
 use Rattle.fingers.specs.declared.gestures.Gesture.TheVariants.{Grab}
-use Rattle.fingers.specs.declared.keys.KeyStep.{KeyStep}
-use Rattle.fingers.specs.declared.keys.KeyStep.TheVariants.{Same, Flipped}
 use Rattle.fingers.specs.declared.one.App.{App}
 use Rattle.fingers.specs.declared.one.One.{One}
 use Rattle.fingers.specs.declared.one.OneStep.{OneStep}
-use Rattle.gesture.specs.Answers.{given_by}
+use Rattle.fingers.specs.declared.gestures.Gesture.{Gesture}
+use Rattle.gesture.specs.Answers.{refusal_of, given, given_by}
 use Rattle.gesture.specs.Calls.{Call, tick, capture, capture_direct, raw_next, answer_of}
 use Rattle.gesture.specs.Runs.{after}
 use Rattle.gesture.specs.States.{state_rule}
 use Rattle.gesture.specs.Trackers.{whole}
-use Rattle.gesture.specs.declared.answers.Given.{Given}
-use Rattle.gesture.specs.declared.answers.Given.TheVariants.{Gave}
 use Rattle.gesture.specs.declared.record.Tracker.{Tracker}
 use Rattle.panel.proofs.Follow.{if-all}
 use Rattle.panel.specs.declared.points.Point.{Point}
 use Rattle.history.specs.Orders.{◌exactly_if◌, Commute, AnswersAlike, CaptureTick, NoGrab, Setting}
 use Rattle.history.specs.Runs.{Said}
+use Rattle.history.proofs.KeyLaw.{KeyStep}
 use Rattle.history.proofs.Held.{is_grab, differ, Alike, GivesNoGrab, still_alike, still-same, direct-none, direct-same}
-use Rattle.history.proofs.Parts.{given_of, refusal_of, behind, two-leave, settings_by, app_by, with, left, setting-leaves, app-unmarked, out_by, keys_by, one_by, marked, key_of, given_in, one_in, left_in, tick-leaves, tick_gives, tick-answered}
+use Rattle.history.proofs.Parts.{behind, two-leave, settings_by, app_by, with, left, setting-leaves, app-unmarked, out_by, keys_by, one_by, marked, key_of, given_in, one_in, left_in, tick-leaves, tick_gives, tick-answered}
 
 -- a key that is told comes first, whatever the finger does
 key-alike : (k : KeyStep) (o : One) (r s : OneStep) → Alike r s → (one_by k o r ≡ one_by k o s) exactly_if (given_by (out_by k r) ≡ given_by (out_by k s))
-key-alike (Flipped g told) o r s a = (λ e. refl, λ e. refl)
-key-alike Same o r s a = (λ e. ap (λ (u : OneStep). given_by u.out) (a.0 e), λ e. ap (λ (u : OneStep). u.one) (a.1 e))
+key-alike (Some (g, told)) o r s a = (λ e. refl, λ e. refl)
+key-alike None o r s a = (λ e. ap (λ (u : OneStep). given_by u.out) (a.0 e), λ e. ap (λ (u : OneStep). u.one) (a.1 e))
 
 abbrev NoGrabBy : OneStep → KeyStep → Type 0
-NoGrabBy s k = (p : Point) → given_by (out_by k s) ≡ Gave (Grab p) → ⊥
+NoGrabBy s k = (p : Point) → given_by (out_by k s) ≡ Some (Grab p) → ⊥
 
 -- and it is no Grab
 key-none : (told wanted : ℕ) (s : OneStep) → GivesNoGrab s → NoGrabBy s (key_step told wanted)
@@ -43,10 +42,10 @@ key-none told wanted s none =
     if-all (NoGrabBy s) _ (λ p e. differ is_grab refl refl (sym e)) (if-all (NoGrabBy s) _ (λ p e. differ is_grab refl refl (sym e)) none)
 
 key-same : (k : KeyStep) (r s : OneStep) → (GivesNoGrab s → r ≡ s) → NoGrabBy s k → given_by (out_by k r) ≡ given_by (out_by k s)
-key-same (Flipped g told) r s same none = refl
-key-same Same r s same none = ap (λ (u : OneStep). given_by u.out) (same none)
+key-same (Some (g, told)) r s same none = refl
+key-same None r s same none = ap (λ (u : OneStep). given_by u.out) (same none)
 
-abbrev said_of : ℕ → ℕ → Given → Said
+abbrev said_of : ℕ → ℕ → Option Gesture → Said
 said_of now number g = record { call = tick now; refusal = number; given = g }
 
 module _ (t : Tracker) (h : state_rule t ≡ true) where
@@ -67,8 +66,8 @@ module _ (t : Tracker) (h : state_rule t ≡ true) where
       λ e. tick-behind ∙ ap (marked (left t c) (keys_by (key_of t) t.keys)) e ∙ sym tick-before,
     )
 
-    then-gives : given_of (answer_of (after t (c ∷ [])) (tick now)) ≡ given_in (left t c) now
-    then-gives = behind given_of c (tick now) (λ (u : Tracker). left u c) (λ (u : Tracker). given_in u now) (setting-leaves c x) (tick_gives now) t h
+    then-gives : given (answer_of (after t (c ∷ [])) (tick now)) ≡ given_in (left t c) now
+    then-gives = behind given c (tick now) (λ (u : Tracker). left u c) (λ (u : Tracker). given_in u now) (setting-leaves c x) (tick_gives now) t h
 
     then-answered : refusal_of (answer_of (after t (c ∷ [])) (tick now)) ≡ 0
     then-answered = behind refusal_of c (tick now) (λ (u : Tracker). left u c) (λ (u : Tracker). 0) (setting-leaves c x) (tick-answered now) t h
@@ -107,13 +106,13 @@ module _ (t : Tracker) (h : state_rule t ≡ true) where
   pub direct-tick-law : (now : ℕ) → Commute t capture_direct (tick now) exactly_if NoGrab t now
   unfolding left with whole set_raw
   direct-tick-law now =
-      let given = tick_gives now t h in
+      let told = tick_gives now t h in
       let set = set_raw t.settings false in (
         λ same p grab.
             key-none t.keys.told t.keys.wanted _ (direct-none t.one t.app t.settings set now t.touch) p
-            ((by-given capture_direct tt now).0 ((tick-law capture_direct tt now).0 same) ∙ sym given ∙ grab),
+            ((by-given capture_direct tt now).0 ((tick-law capture_direct tt now).0 same) ∙ sym told ∙ grab),
         λ none.
             (tick-law capture_direct tt now).1
             ((by-given capture_direct tt now).1
-            (key-same (key_of t) _ _ (direct-same t.one t.app t.settings set now t.touch refl) (λ p e. none p (given ∙ e)))),
+            (key-same (key_of t) _ _ (direct-same t.one t.app t.settings set now t.touch refl) (λ p e. none p (told ∙ e)))),
       )

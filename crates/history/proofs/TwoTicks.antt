@@ -1,4 +1,5 @@
 -- Two ticks, and the same two the other way round. Assumes nothing.
+use Rattle.std.specs.Prelude.{Option, Some, None}
 use Prim.Native.Nat.{ℕ, ◌-◌}
 use mathlib.Core.Path.{◌≡◌, refl, sym, ap, ap₂, ◌∙◌}
 use mathlib.Core.Bool.{Bool, true, false, not}
@@ -7,18 +8,16 @@ use mathlib.Core.Logic.{inl, inr, ⊎_elim}
 use Rattle.fingers.specs.Fields.{set_grabbed, set_long_sent}
 use Rattle.fingers.specs.Holds.{hold_of, is_on, grab_due, long_due, held_still}
 use Rattle.fingers.specs.Keys.{key_step}
-use Rattle.fingers.specs.declared.keys.KeyStep.{KeyStep}
-use Rattle.fingers.specs.declared.keys.KeyStep.TheVariants.{Same, Flipped}
 use Rattle.fingers.specs.declared.one.App.{App}
 use Rattle.fingers.specs.declared.one.One.{One}
 use Rattle.fingers.specs.declared.one.OneStep.{OneStep}
 use Rattle.fingers.specs.declared.settings.Settings.{Settings}
-use Rattle.gesture.specs.Answers.{given_by}
+use Rattle.fingers.specs.declared.gestures.Gesture.{Gesture}
+use Rattle.gesture.specs.Answers.{given, given_by}
 use Rattle.gesture.specs.Calls.{tick}
 use Rattle.gesture.specs.Runs.{after}
 use Rattle.gesture.specs.States.{state_rule}
 use Rattle.gesture.specs.Trackers.{whole}
-use Rattle.gesture.specs.declared.answers.Given.{Given}
 use Rattle.gesture.specs.declared.record.Touch.{Touch}
 use Rattle.gesture.specs.declared.record.Touch.TheVariants.{Idle, Down, Multi, Residual}
 use Rattle.gesture.specs.declared.record.Tracker.{Tracker}
@@ -26,12 +25,13 @@ use Rattle.panel.specs.Tests as tests
 use Rattle.panel.specs.Tests.{when◌then◌else◌, ◌and◌}
 use Rattle.panel.specs.declared.points.Point.{Point}
 use Rattle.history.specs.Orders.{◌exactly_if◌, Commute, gives, Rearranged, SameGestures}
+use Rattle.history.proofs.KeyLaw.{KeyStep}
 use Rattle.history.proofs.Held.{due, grab_now, long_now, held-is, grab-new, long-new, is_grab, is_long, long_sent, differ, New, still_alike}
 use Rattle.history.proofs.Moves.{never-more}
-use Rattle.history.proofs.Parts.{given_of, behind, two-leave, still_by, out_by, keys_by, one_by, marked, key_of, still_of, given_in, left_in, tick-leaves, tick_gives}
+use Rattle.history.proofs.Parts.{behind, two-leave, still_by, out_by, keys_by, one_by, marked, key_of, still_of, given_in, left_in, tick-leaves, tick_gives}
 
-abbrev given : OneStep → Given
-given s = given_by s.out
+abbrev gesture_of : OneStep → Option Gesture
+gesture_of s = given_by s.out
 
 -- A finger that is down alone, by whether a Grab and a LongPress are due at the one time and at the other.
 
@@ -62,7 +62,7 @@ module _ (start : Point) (o : One) where
   abbrev Turned : Bool → Bool → Bool → Bool → Type 0
   Turned g l g' l' =
       ((second g l g' l' start o).one ≡ (second g' l' g l start o).one)
-      exactly_if Rearranged (given (due g l start o)) (given (second g l g' l' start o)) (given (due g' l' start o)) (given (second g' l' g l start o))
+      exactly_if Rearranged (gesture_of (due g l start o)) (gesture_of (second g l g' l' start o)) (gesture_of (due g' l' start o)) (gesture_of (second g' l' g l start o))
 
   due-turned : (g l g' l' : Bool) → New o g l → New o g' l' → Turned g l g' l'
   unfolding due second given_by set_grabbed set_long_sent tests.when◌then◌else◌
@@ -106,7 +106,7 @@ module _ (app : App) (set : Settings) where
       ∙ again start o (λ (u : One). grab_now u app set since b) (λ (u : One). long_now u app set since b) (grab-once o hold (b - since)) refl refl (long-once o set.grab_ms (b - since)) (grab_now o app set since a) (long_now o app set since a)
 
   abbrev Twice : (r r' s s' : OneStep) → Type 0
-  Twice r r' s s' = (r'.one ≡ s'.one) exactly_if Rearranged (given r) (given r') (given s) (given s')
+  Twice r r' s s' = (r'.one ≡ s'.one) exactly_if Rearranged (gesture_of r) (gesture_of r') (gesture_of s) (gesture_of s')
 
   still-turned : (x : Touch) (o : One) (a b : ℕ) → Twice (still x o a) (twice x o a b) (still x o b) (twice x o b a)
   unfolding still_by
@@ -120,8 +120,8 @@ module _ (app : App) (set : Settings) where
 -- Keys that are left to tell come first: one for each tick, whatever its time.
 
 is_same : KeyStep → Bool
-is_same Same = true
-is_same (Flipped g told) = false
+is_same None = true
+is_same (Some (g, told)) = false
 
 module _ (t : Tracker) (a b : ℕ) where
   abbrev first_one : KeyStep → ℕ → One
@@ -130,16 +130,16 @@ module _ (t : Tracker) (a b : ℕ) where
   abbrev later : KeyStep → ℕ → ℕ → OneStep
   later k now next = still_by t.touch (first_one k now) t.app t.settings next
 
-  keys-turned : (k k' : KeyStep) → (k ≡ Same → k' ≡ Same) →
+  keys-turned : (k k' : KeyStep) → (k ≡ None → k' ≡ None) →
       (one_by k' (first_one k a) (later k a b) ≡ one_by k' (first_one k b) (later k b a))
       exactly_if Rearranged (given_by (out_by k (still_of t a))) (given_by (out_by k' (later k a b))) (given_by (out_by k (still_of t b))) (given_by (out_by k' (later k b a)))
   unfolding is_same
-  keys-turned Same Same s = still-turned t.app t.settings t.touch t.one a b
-  keys-turned Same (Flipped g told) s = differ is_same refl refl (sym (s refl))
-  keys-turned (Flipped g told) (Flipped g' told') s = (λ e. inl (refl, refl), λ r. refl)
-  keys-turned (Flipped g told) Same s =
+  keys-turned None None s = still-turned t.app t.settings t.touch t.one a b
+  keys-turned None (Some (g, told)) s = differ is_same refl refl (sym (s refl))
+  keys-turned (Some (g, told)) (Some (g', told')) s = (λ e. inl (refl, refl), λ r. refl)
+  keys-turned (Some (g, told)) None s =
       let alike = still_alike t.touch t.one t.app t.app t.settings t.settings b a in (
-        λ e. inl (refl, ap given (alike.0 e)),
+        λ e. inl (refl, ap gesture_of (alike.0 e)),
         ⊎_elim (λ r. ap (λ (s : OneStep). s.one) (alike.1 r.1)) (λ r. ap (λ (s : OneStep). s.one) (alike.1 (r.1 ∙ r.0))),
       )
 
@@ -150,7 +150,7 @@ module _ (t : Tracker) (h : state_rule t ≡ true) where
   in-turn a b = two-leave (tick a) (tick b) (λ (u : Tracker). left_in u a) (λ (u : Tracker). left_in u b) (tick-leaves a) (tick-leaves b) t h
 
   then-gives : (a b : ℕ) → gives (after t (tick a ∷ [])) b ≡ given_in (left_in t a) b
-  then-gives a b = behind given_of (tick a) (tick b) (λ (u : Tracker). left_in u a) (λ (u : Tracker). given_in u b) (tick-leaves a) (tick_gives b) t h
+  then-gives a b = behind given (tick a) (tick b) (λ (u : Tracker). left_in u a) (λ (u : Tracker). given_in u b) (tick-leaves a) (tick_gives b) t h
 
   pub tick-tick-law : (a b : ℕ) → Commute t (tick a) (tick b) exactly_if SameGestures t a b
   unfolding marked whole

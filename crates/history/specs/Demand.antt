@@ -1,10 +1,8 @@
 -- Demand 3, sentence by sentence, of a call and its answer with what an observer knew before it.
-use Rattle.std.specs.Prelude.{ℕ, ◌≡◌, Bool, true, false, not, List, [], ◌∷◌}
+use Rattle.std.specs.Prelude.{ℕ, ◌≡◌, Bool, true, false, not, List, [], ◌∷◌, Option, Some, None}
 use Rattle.fingers.specs.declared.gestures.Gesture.{Gesture}
 use Rattle.fingers.specs.declared.gestures.Gesture.TheVariants.{Down}
 use Rattle.gesture.specs.Calls.{Call, report, tick, capture, capture_direct, raw_next, set_grab_ms}
-use Rattle.gesture.specs.declared.answers.Given.{Given}
-use Rattle.gesture.specs.declared.answers.Given.TheVariants.{Nothing, Gave}
 use Rattle.panel.specs.Tests.{◌and◌, ◌or◌}
 use Rattle.history.specs.Gestures.{gives_one_finger, tells_key, tells_keys_only}
 use Rattle.history.specs.Keys.{changes}
@@ -24,17 +22,17 @@ Repeats mask capture_direct = Unit {0}
 Repeats mask (raw_next wish) = Unit {0}
 Repeats mask (set_grab_ms ms) = Unit {0}
 
-abbrev pub NextChange : List Gesture → Given → (List Gesture → Type 0) → Type 0
+abbrev pub NextChange : List Gesture → Option Gesture → (List Gesture → Type 0) → Type 0
 NextChange [] g rest = (tells_key g ≡ false) × rest []
-NextChange (change ∷ changes) g rest = (g ≡ Gave change) × rest changes
+NextChange (change ∷ changes) g rest = (g ≡ Some change) × rest changes
 
-abbrev pub Tells : List Gesture → Call → Given → (List Gesture → Type 0) → Type 0
+abbrev pub Tells : List Gesture → Call → Option Gesture → (List Gesture → Type 0) → Type 0
 Tells left (report now ev) g rest = NextChange left g rest
 Tells left (tick now) g rest = NextChange left g rest
-Tells left capture g rest = (g ≡ Nothing) × rest left
-Tells left capture_direct g rest = (g ≡ Nothing) × rest left
-Tells left (raw_next wish) g rest = (g ≡ Nothing) × rest left
-Tells left (set_grab_ms ms) g rest = (g ≡ Nothing) × rest left
+Tells left capture g rest = (g ≡ None) × rest left
+Tells left capture_direct g rest = (g ≡ None) × rest left
+Tells left (raw_next wish) g rest = (g ≡ None) × rest left
+Tells left (set_grab_ms ms) g rest = (g ≡ None) × rest left
 
 unfoldable pub TellsAll : ℕ → List Gesture → List Said → Type 0
 TellsAll mask left [] = Unit {0}
@@ -55,13 +53,13 @@ abbrev pub had_several : On → Bool
 had_several off = false
 had_several (on t) = t.several
 
-abbrev pub SeveralSilent : On → On → Given → Type 0
+abbrev pub SeveralSilent : On → On → Option Gesture → Type 0
 SeveralSilent before after g = had_several before or had_several after ≡ true → gives_one_finger g ≡ false
 
 -- "A touch that starts with one finger gives Down at once, unless the touch before it had several and its release is under
 -- 300 ms back or ahead of the clock."
-abbrev pub DownAtOnce : Seen → Call → Given → Type 0
-DownAtOnce s (report now ev) g = tells_key g ≡ false → s.touch ≡ off → ev.points ≡ 1 → close s.before now ≡ false → g ≡ Gave (Down ev.p)
+abbrev pub DownAtOnce : Seen → Call → Option Gesture → Type 0
+DownAtOnce s (report now ev) g = tells_key g ≡ false → s.touch ≡ off → ev.points ≡ 1 → close s.before now ≡ false → g ≡ Some (Down ev.p)
 DownAtOnce s (tick now) g = Unit {0}
 DownAtOnce s capture g = Unit {0}
 DownAtOnce s capture_direct g = Unit {0}
@@ -79,7 +77,7 @@ abbrev pub excepted_never_more : On → Bool
 excepted_never_more off = false
 excepted_never_more (on t) = t.excepted and not t.several
 
-abbrev pub ExceptedSilent : On → On → Given → Type 0
+abbrev pub ExceptedSilent : On → On → Option Gesture → Type 0
 ExceptedSilent before after g = excepted_with_one after or excepted_never_more before ≡ true → tells_keys_only g ≡ true
 
 -- What is promised of a call x, with s known before it and xs to follow.

@@ -2,11 +2,9 @@
 --
 -- "If a report's mask differs in d keys, at least one, from those told, .. each change once, releases first, low codes
 -- first".
-use Rattle.std.specs.Prelude.{ℕ, ◌+◌, ◌-◌, ◌/◌, ◌%◌, ◌^◌, Bool, true, false, not, List, [], ◌∷◌, ◌++◌, map}
+use Rattle.std.specs.Prelude.{ℕ, ◌+◌, ◌-◌, ◌/◌, ◌%◌, ◌^◌, Bool, true, false, not, List, [], ◌∷◌, ◌++◌, map, Option, Some, None}
 use Rattle.fingers.specs.declared.gestures.Gesture.{Gesture}
 use Rattle.fingers.specs.declared.gestures.Gesture.TheVariants.{Down, Tap, LongPress, Drag, Grab, Up, SwipeLeft, SwipeRight, SwipeUp, SwipeDown, Cancel, MultiSwipeDown, KeyDown, KeyUp, Move, Pinch, PinchEnd}
-use Rattle.gesture.specs.declared.answers.Given.{Given}
-use Rattle.gesture.specs.declared.answers.Given.TheVariants.{Nothing, Gave}
 use Rattle.panel.specs.Tests.{when◌then◌else◌, ◌and◌, ◌or◌, ◌=?◌}
 
 -- whether a key is in a mask
@@ -56,6 +54,6 @@ told_by mask (Move prev p) = mask
 told_by mask (Pinch a span0 span) = mask
 told_by mask (PinchEnd released) = mask
 
-abbrev pub told : ℕ → Given → ℕ
-told mask Nothing = mask
-told mask (Gave g) = told_by mask g
+abbrev pub told : ℕ → Option Gesture → ℕ
+told mask None = mask
+told mask (Some g) = told_by mask g

@@ -7,19 +7,18 @@
 --
 -- And so for every pair of these calls and `set_grab_ms`. All of it is said of calls and of what they answer; a tracker that
 -- breaks the rule is left as it is by every call.
-use Rattle.std.specs.Prelude.{ℕ, min, ◌≡◌, Bool, false, not, [], ◌∷◌, ◌⊎◌}
+use Rattle.std.specs.Prelude.{ℕ, min, ◌≡◌, Bool, false, not, [], ◌∷◌, ◌⊎◌, Option, Some, None}
 use Rattle.fingers.specs.Thresholds.{grab_most}
 use Rattle.fingers.specs.declared.gestures.Gesture.TheVariants.{Grab}
+use Rattle.fingers.specs.declared.gestures.Gesture.{Gesture}
 use Rattle.gesture.specs.Calls.{Call, report, tick, capture, capture_direct, raw_next, set_grab_ms, answer_of}
+use Rattle.gesture.specs.Answers.{given, logged_by}
 use Rattle.gesture.specs.Captures.{takes}
 use Rattle.gesture.specs.Lines.{capture_line}
 use Rattle.gesture.specs.Runs.{made, after}
 use Rattle.gesture.specs.Trackers.{is_active}
-use Rattle.gesture.specs.declared.answers.Given.{Given}
-use Rattle.gesture.specs.declared.answers.Given.TheVariants.{Gave}
-use Rattle.gesture.specs.declared.lines.Log.{Log}
-use Rattle.gesture.specs.declared.lines.Log.TheVariants.{Silent}
 use Rattle.gesture.specs.declared.record.Tracker.{Tracker}
+use Rattle.gesture.specs.declared.lines.Line.{Line}
 use Rattle.panel.specs.Tests.{when◌then◌else◌, ◌and◌, ◌or◌}
 use Rattle.panel.specs.declared.points.Point.{Point}
 use Rattle.history.specs.Runs.{said}
@@ -65,14 +64,14 @@ CaptureDirect t = Commute t capture capture_direct exactly_if (wish_meets_touch 
 -- What the other pairs hang on.
 
 -- what a tick at this time gives
-abbrev pub gives : Tracker → ℕ → Given
-gives t now = (answer_of t (tick now)).gesture
+abbrev pub gives : Tracker → ℕ → Option Gesture
+gives t now = given (answer_of t (tick now))
 
 abbrev pub NoGrab : Tracker → ℕ → Type 0
-NoGrab t now = (p : Point) → gives t now ≡ Gave (Grab p) → ⊥
+NoGrab t now = (p : Point) → gives t now ≡ Some (Grab p) → ⊥
 
 -- the same two gestures, in this order or the other
-abbrev pub Rearranged : Given → Given → Given → Given → Type 0
+abbrev pub Rearranged : Option Gesture → Option Gesture → Option Gesture → Option Gesture → Type 0
 Rearranged g g' h h' = ((g ≡ h) × (g' ≡ h')) ⊎ ((g ≡ h') × (g' ≡ h))
 
 -- of two ticks: at a and then at b, and the other way round
@@ -111,18 +110,18 @@ pub record Orders (t : Tracker) : Type 0 where
 
 -- "Log lines are not compared." Which of them differ, and how: `capture` and the tick alone log.
 
-abbrev pub logs : Tracker → Call → Log
-logs t c = (answer_of t c).log
+abbrev pub logs : Tracker → Call → Option Line
+logs t c = logged_by (answer_of t c)
 
 pub record Lines (t : Tracker) : Type 0 where
-  pub direct-silent : logs t capture_direct ≡ Silent
-  pub raw-silent : (on : Bool) → logs t (raw_next on) ≡ Silent
-  pub grab-silent : (ms : ℕ) → logs t (set_grab_ms ms) ≡ Silent
+  pub direct-silent : logs t capture_direct ≡ None
+  pub raw-silent : (on : Bool) → logs t (raw_next on) ≡ None
+  pub grab-silent : (ms : ℕ) → logs t (set_grab_ms ms) ≡ None
   -- a capture that finds the touch captured logs nothing
-  pub capture-after-capture : logs (after t (capture ∷ [])) capture ≡ Silent
-  pub capture-after-direct : logs (after t (capture_direct ∷ [])) capture ≡ Silent
+  pub capture-after-capture : logs (after t (capture ∷ [])) capture ≡ None
+  pub capture-after-direct : logs (after t (capture_direct ∷ [])) capture ≡ None
   -- behind `raw_next` its line has that wish
-  pub capture-after-raw : (on : Bool) → logs (after t (raw_next on ∷ [])) capture ≡ (when takes t then capture_line on t.one.last else Silent)
+  pub capture-after-raw : (on : Bool) → logs (after t (raw_next on ∷ [])) capture ≡ (when takes t then capture_line on t.one.last else None)
   pub capture-after-grab : (ms : ℕ) → logs (after t (set_grab_ms ms ∷ [])) capture ≡ logs t capture
   pub capture-after-tick : (now : ℕ) → logs (after t (tick now ∷ [])) capture ≡ logs t capture
   -- a tick that answers alike logs alike

@@ -1,12 +1,12 @@
 -- Runs of calls.
 --
 -- "Take any accepted calls on a fresh tracker."
-use Rattle.std.specs.Prelude.{ℕ, ◌<◌, ◌≡◌, true, List, [], ◌∷◌, map}
-use Rattle.gesture.specs.Answers.{points_in_use}
+use Rattle.std.specs.Prelude.{ℕ, ◌<◌, ◌≡◌, true, List, [], ◌∷◌, map, Option}
+use Rattle.fingers.specs.declared.gestures.Gesture.{Gesture}
+use Rattle.gesture.specs.Answers.{points_in_use, refusal_of, given}
 use Rattle.gesture.specs.Calls.{Call, report, tick, capture, capture_direct, raw_next, set_grab_ms}
 use Rattle.gesture.specs.Runs.{Made, run}
 use Rattle.gesture.specs.Trackers.{fresh_tracker}
-use Rattle.gesture.specs.declared.answers.Given.{Given}
 use Rattle.gesture.specs.declared.record.Tracker.{Tracker}
 use Rattle.panel.specs.Points.{all_on_panel}
 
@@ -14,10 +14,10 @@ use Rattle.panel.specs.Points.{all_on_panel}
 pub record Said : Type 0 where
   pub call : Call
   pub refusal : ℕ
-  pub given : Given
+  pub given : Option Gesture
 
 abbrev pub said : Made → Said
-said m = record { call = m.call; refusal = m.answer.refusal; given = m.answer.gesture }
+said m = record { call = m.call; refusal = refusal_of m.answer; given = given m.answer }
 
 -- the history that calls make on a tracker, oldest first
 abbrev pub sayings : Tracker → List Call → List Said

@@ -2,9 +2,9 @@
 --
 -- "A report answered by a key change is spent: its fingers count for nothing." "A touch runs from an unspent report with
 -- fingers to the next unspent report of none."
-use Rattle.std.specs.Prelude.{ℕ, ◌+◌, Bool, true, false}
+use Rattle.std.specs.Prelude.{ℕ, ◌+◌, Bool, true, false, Option}
+use Rattle.fingers.specs.declared.gestures.Gesture.{Gesture}
 use Rattle.gesture.specs.Calls.{Call, report, tick, capture, capture_direct, raw_next, set_grab_ms}
-use Rattle.gesture.specs.declared.answers.Given.{Given}
 use Rattle.panel.specs.Tests.{when◌then◌else◌, ◌<?◌, ◌=?◌}
 use Rattle.history.specs.Gestures.{tells_key}
 use Rattle.history.specs.Keys.{told}
@@ -62,10 +62,10 @@ counted s n now =
     else record { keys = s.keys; touch = on (with_several s.touch); before = s.before }
 
 -- what is known after a call and its answer
-abbrev pub key_told : Seen → Given → Seen
+abbrev pub key_told : Seen → Option Gesture → Seen
 key_told s g = record { keys = told s.keys g; touch = s.touch; before = s.before }
 
-abbrev pub watch : Seen → Call → Given → Seen
+abbrev pub watch : Seen → Call → Option Gesture → Seen
 watch s (report now ev) g = when tells_key g then key_told s g else counted s ev.points now
 watch s (tick now) g = key_told s g
 watch s capture g = s

@@ -4,7 +4,7 @@ ghost use Rattle.calmap.specs.Maps.{apply_of};
 ghost use Rattle.host.specs.Hosts.{applied, cal_of, applied_by};
 
 use crate::widths;
-use calmap::{ApplyAnswer, Cal, Q16};
+use calmap::{Cal, Q16};
 
 // The point (x, y) through the six steps: 0 and two numbers in sixteenths of a pixel, or 3 and zeros.
 #[tactic(auto, unfolding(crate::specs::Hosts::applied_by))]
@@ -30,17 +30,15 @@ pub extern "C" fn touch_apply16(
         c4: Q16(c4),
         c5: Q16(c5),
     };
-    let a = calmap::apply16(c, x, y);
-    match a {
-        ApplyAnswer::Answered(s) => {
-            let u = s.0.0;
-            let v = s.1.0;
-            *out = [u, v];
+    let told = calmap::apply16(c, x, y);
+    match told {
+        Ok(s) => {
+            *out = [s.0.0, s.1.0];
             0
         }
-        ApplyAnswer::Refused(why) => {
+        Err(_) => {
             *out = [0, 0];
-            widths::number_of(why)
+            widths::number_of(told)
         }
     }
 }

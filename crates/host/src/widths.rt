@@ -1,17 +1,14 @@
-// Numbers as C has them.
+// What C is told of a call: 0, or the number of why it is refused.
 ghost use Rattle.std.specs.Prelude.{◌≡◌};
-ghost use Rattle.panel.specs.Refusals.{number_of};
+ghost use Rattle.host.specs.Hosts.{number_told};
 
 use panel::Refusal;
 
-pub(crate) fn wide32(x: u8) -> u32
-    ensures { result ≡ x }
+pub(crate) fn number_of<T: Copy>(told: Result<T, Refusal>) -> u32
+    ensures { result ≡ number_told told }
 {
-    x as u32
-}
-
-pub(crate) fn number_of(why: Refusal) -> u32
-    ensures { result ≡ number_of why }
-{
-    wide32(panel::number(why))
+    match told {
+        Ok(_) => 0,
+        Err(why) => u32::from(u8::from(why)),
+    }
 }

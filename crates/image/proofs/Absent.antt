@@ -1,4 +1,5 @@
 -- Parts that may be absent: an image that is zero there is as if their rows had been written. Assumes nothing.
+use Rattle.std.specs.Prelude.{Option, Some, None}
 use Prim.Native.Nat.{ℕ}
 use mathlib.Core.Path.{◌≡◌, refl, sym, ◌∙◌, ap}
 use mathlib.Core.List.{List}
@@ -7,8 +8,6 @@ use lib.Seq.{sets}
 use Rattle.panel.specs.declared.points.Point.{Point}
 use Rattle.fingers.specs.declared.several.Multi.{Multi}
 use Rattle.fingers.specs.declared.pair.Pair.{Pair}
-use Rattle.fingers.specs.declared.pair.Pairing.{Pairing}
-use Rattle.fingers.specs.declared.pair.Pairing.TheVariants.{Unpaired, Paired}
 use Rattle.gesture.specs.declared.record.Touch.{Touch}
 use Rattle.gesture.specs.declared.record.Touch.TheVariants as touch
 use Rattle.panel.specs.Axes.{axis_number}
@@ -33,7 +32,7 @@ down : (start : Point) (since : ℕ) → puts blank at_touch (touch_rows (touch.
 unfolding puts bytes_of touch_number start_of since_of multi_of pairing_of pair_number pair_of point_rows down_rows multi_rows pair_rows pairing_rows touch_rows axis_number
 down start since = refl
 
-multi : (m : Multi) (pair : Pairing) → puts blank at_touch (touch_rows (touch.Multi m pair)) ≡ puts (puts (marked 2) at_multi_n (multi_rows m)) at_pairs (pairing_rows pair)
+multi : (m : Multi) (pair : Option Pair) → puts blank at_touch (touch_rows (touch.Multi m pair)) ≡ puts (puts (marked 2) at_multi_n (multi_rows m)) at_pairs (pairing_rows pair)
 unfolding puts bytes_of touch_number start_of since_of multi_of pairing_of point_rows down_rows multi_rows pair_rows pairing_rows touch_rows
 multi m pair = refl
 
@@ -41,19 +40,19 @@ residual : puts blank at_touch (touch_rows touch.Residual) ≡ marked 3
 unfolding puts bytes_of touch_number start_of since_of multi_of pairing_of pair_number pair_of point_rows down_rows multi_rows pair_rows pairing_rows touch_rows axis_number
 residual = refl
 
-unpaired : (m : Multi) → puts (puts (marked 2) at_multi_n (multi_rows m)) at_pairs (pairing_rows Unpaired) ≡ puts (marked 2) at_multi_n (multi_rows m)
+unpaired : (m : Multi) → puts (puts (marked 2) at_multi_n (multi_rows m)) at_pairs (pairing_rows None) ≡ puts (marked 2) at_multi_n (multi_rows m)
 unfolding puts bytes_of pair_number pair_of point_rows multi_rows pair_rows pairing_rows axis_number
 unpaired m = refl
 
 -- What the code writes by cases is the rows of the case.
 
-module _ (pair : Pairing) where
-  pub unpaired-put : (area : List ℕ) → puts area at_pairs (pairing_rows Unpaired) ≡ area → pair ≡ Unpaired → area ≡ puts area at_pairs (pairing_rows pair)
-  unpaired-put area zero e = sym (ap (λ (x : Pairing). puts area at_pairs (pairing_rows x)) e ∙ zero)
+module _ (pair : Option Pair) where
+  pub unpaired-put : (area : List ℕ) → puts area at_pairs (pairing_rows None) ≡ area → pair ≡ None → area ≡ puts area at_pairs (pairing_rows pair)
+  unpaired-put area zero e = sym (ap (λ (x : Option Pair). puts area at_pairs (pairing_rows x)) e ∙ zero)
 
-  pub paired-put : (r : Pair) (a0 a1 a2 : List ℕ) → pair ≡ Paired r → a1 ≡ sets a0 at_pairs (bytes_of 1 1) → a2 ≡ puts a1 at_pair_a (pair_rows r) → a2 ≡ puts a0 at_pairs (pairing_rows pair)
+  pub paired-put : (r : Pair) (a0 a1 a2 : List ℕ) → pair ≡ Some r → a1 ≡ sets a0 at_pairs (bytes_of 1 1) → a2 ≡ puts a1 at_pair_a (pair_rows r) → a2 ≡ puts a0 at_pairs (pairing_rows pair)
   unfolding puts pairing_rows pair_number pair_of
-  paired-put r a0 a1 a2 e h1 h2 = h2 ∙ ap (λ (l : List ℕ). puts l at_pair_a (pair_rows r)) h1 ∙ ap (λ (x : Pairing). puts a0 at_pairs (pairing_rows x)) (sym e)
+  paired-put r a0 a1 a2 e h1 h2 = h2 ∙ ap (λ (l : List ℕ). puts l at_pair_a (pair_rows r)) h1 ∙ ap (λ (x : Option Pair). puts a0 at_pairs (pairing_rows x)) (sym e)
 
 module _ (x : Touch) (a0 : List ℕ) (zero : a0 ≡ blank) where
   with_rows : (y : Touch) → x ≡ y → puts blank at_touch (touch_rows y) ≡ puts a0 at_touch (touch_rows x)
@@ -72,10 +71,10 @@ module _ (x : Touch) (a0 : List ℕ) (zero : a0 ≡ blank) where
     several : a2 ≡ puts (marked 2) at_multi_n (multi_rows m)
     several = h2 ∙ ap (λ (l : List ℕ). puts l at_multi_n (multi_rows m)) (mark 2 a1 h1)
 
-    pub no-pair-yet : puts a2 at_pairs (pairing_rows Unpaired) ≡ a2
-    no-pair-yet = ap (λ (l : List ℕ). puts l at_pairs (pairing_rows Unpaired)) several ∙ unpaired m ∙ sym several
+    pub no-pair-yet : puts a2 at_pairs (pairing_rows None) ≡ a2
+    no-pair-yet = ap (λ (l : List ℕ). puts l at_pairs (pairing_rows None)) several ∙ unpaired m ∙ sym several
 
-    pub multi-put : (pair : Pairing) (a3 : List ℕ) → x ≡ touch.Multi m pair → a3 ≡ puts a2 at_pairs (pairing_rows pair) → a3 ≡ puts a0 at_touch (touch_rows x)
+    pub multi-put : (pair : Option Pair) (a3 : List ℕ) → x ≡ touch.Multi m pair → a3 ≡ puts a2 at_pairs (pairing_rows pair) → a3 ≡ puts a0 at_touch (touch_rows x)
     multi-put pair a3 e h3 = h3 ∙ ap (λ (l : List ℕ). puts l at_pairs (pairing_rows pair)) several ∙ sym (multi m pair) ∙ with_rows (touch.Multi m pair) e
 
   pub residual-put : (a1 : List ℕ) → x ≡ touch.Residual → a1 ≡ sets a0 at_touch (bytes_of 1 3) → a1 ≡ puts a0 at_touch (touch_rows x)

@@ -1,5 +1,6 @@
 -- The tracker read from the image of a tracker is that tracker; and what is read from bytes is within its types. Assumes
 -- nothing.
+use Rattle.std.specs.Prelude.{Option, Some, None}
 use Prim.Native.Nat.{ℕ, ◌+◌, ◌<◌}
 use mathlib.Core.Path.{◌≡◌, refl, ◌∙◌, ap}
 use mathlib.Core.List.{List, [], ◌∷◌, ◌++◌}
@@ -9,22 +10,16 @@ use Rattle.panel.specs.Tests as tests
 use Rattle.panel.specs.declared.points.Point.{Point}
 use Rattle.panel.specs.declared.axes.Axis.{Axis}
 use Rattle.panel.specs.declared.axes.Axis.TheVariants.{H, «V»}
-use Rattle.panel.specs.declared.axes.AxisLock.{AxisLock}
-use Rattle.panel.specs.declared.axes.AxisLock.TheVariants.{Free, On}
 use Rattle.fingers.specs.declared.one.One.{One}
 use Rattle.fingers.specs.declared.one.App.{App}
 use Rattle.fingers.specs.declared.several.Multi.{Multi}
 use Rattle.fingers.specs.declared.pair.Pair.{Pair}
-use Rattle.fingers.specs.declared.pair.Pairing.{Pairing}
-use Rattle.fingers.specs.declared.pair.Pairing.TheVariants.{Unpaired, Paired}
 use Rattle.panel.proofs.Follow.{if-all}
 use Rattle.panel.specs.Axes as axes
 use Rattle.panel.specs.Axes.{axis_number}
 use Rattle.gesture.specs.Trackers.{origin}
 use Rattle.gesture.specs.declared.record.Touch.{Touch}
 use Rattle.gesture.specs.declared.record.Touch.TheVariants as touch
-use Rattle.gesture.specs.declared.record.MultiEnd.{MultiEnd}
-use Rattle.gesture.specs.declared.record.MultiEnd.TheVariants.{Never, At}
 use Rattle.gesture.specs.declared.record.Tracker.{Tracker}
 use Rattle.image.specs.Image.{touch_number, start_of, since_of, multi_of, pairing_of, pair_number, pair_of, end_number, end_time, lock_number, zero_multi, zero_pair, point_rows, down_rows, multi_rows, pair_rows, pairing_rows, touch_rows, finger_rows, one_rows, taken_rows, end_rows, key_rows, setting_rows, table, image_of}
 use Rattle.image.specs.Rows.{row, total, Fits}
@@ -47,11 +42,11 @@ unfolding axes.axis_number
 axis-fits H = lit< tt
 axis-fits «V» = lit< tt
 
-lock-fits : (x : AxisLock) → lock_number x < 256
+lock-fits : (x : Option Axis) → lock_number x < 256
 unfolding lock_number axes.axis_number
-lock-fits Free = lit< tt
-lock-fits (On H) = lit< tt
-lock-fits (On «V») = lit< tt
+lock-fits None = lit< tt
+lock-fits (Some H) = lit< tt
+lock-fits (Some «V») = lit< tt
 
 zero-point : TypedPoint origin
 zero-point = (lit< tt, lit< tt)
@@ -68,10 +63,10 @@ pair_fits : (r : Pair) → TypedPair r → Fits (pair_rows r)
 unfolding pair_rows point_rows
 pair_fits r h = (h.0.0, (h.0.1, (h.1.0, (h.1.1, (axis-fits r.axis, (h.2, (h.3.0, (h.3.1, (h.4, tt)))))))))
 
-pairing-fits : (pair : Pairing) → TypedPairing pair → Fits (pairing_rows pair)
+pairing-fits : (pair : Option Pair) → TypedPairing pair → Fits (pairing_rows pair)
 unfolding pairing_rows pair_number pair_of
-pairing-fits Unpaired h = (lit< tt, pair_fits zero_pair (zero-point, zero-point, lit< tt, zero-point, lit< tt))
-pairing-fits (Paired r) h = (lit< tt, pair_fits r h)
+pairing-fits None h = (lit< tt, pair_fits zero_pair (zero-point, zero-point, lit< tt, zero-point, lit< tt))
+pairing-fits (Some r) h = (lit< tt, pair_fits r h)
 
 no-down : Fits (down_rows origin 0)
 no-down = down_fits origin 0 zero-point (lit< tt)
@@ -79,28 +74,28 @@ no-down = down_fits origin 0 zero-point (lit< tt)
 no-multi : Fits (multi_rows zero_multi)
 no-multi = multi-fits zero_multi (lit< tt, zero-point, lit< tt, zero-point, lit< tt)
 
-absent-fits : Fits (pairing_rows Unpaired)
-absent-fits = pairing-fits Unpaired tt
+absent-fits : Fits (pairing_rows None)
+absent-fits = pairing-fits None tt
 
-module _ (n : ℕ) (known : Byte n) (start : Point) (since : ℕ) (m : Multi) (pair : Pairing) where
+module _ (n : ℕ) (known : Byte n) (start : Point) (since : ℕ) (m : Multi) (pair : Option Pair) where
   parts-fit : Fits (down_rows start since) → Fits (multi_rows m) → Fits (pairing_rows pair) → Fits (row 1 n ∷ (down_rows start since ++ (multi_rows m ++ pairing_rows pair)))
   parts-fit d f r = (known, fits-join (down_rows start since) (multi_rows m ++ pairing_rows pair) d (fits-join (multi_rows m) (pairing_rows pair) f r))
 
 touch-fits : (x : Touch) → TypedTouch x → Fits (touch_rows x)
 unfolding touch_rows touch_number start_of since_of multi_of pairing_of down_rows multi_rows point_rows
-touch-fits touch.Idle h = parts-fit 0 (lit< tt) origin 0 zero_multi Unpaired no-down no-multi absent-fits
-touch-fits (touch.Down start since) h = parts-fit 1 (lit< tt) start since zero_multi Unpaired (down_fits start since h.0 h.1) no-multi absent-fits
+touch-fits touch.Idle h = parts-fit 0 (lit< tt) origin 0 zero_multi None no-down no-multi absent-fits
+touch-fits (touch.Down start since) h = parts-fit 1 (lit< tt) start since zero_multi None (down_fits start since h.0 h.1) no-multi absent-fits
 touch-fits (touch.Multi m pair) h = parts-fit 2 (lit< tt) origin 0 m pair no-down (multi-fits m h.0) (pairing-fits pair h.1)
-touch-fits touch.Residual h = parts-fit 3 (lit< tt) origin 0 zero_multi Unpaired no-down no-multi absent-fits
+touch-fits touch.Residual h = parts-fit 3 (lit< tt) origin 0 zero_multi None no-down no-multi absent-fits
 
 finger-fits : (one : One) (app : App) → TypedOne one → Fits (finger_rows one app)
 unfolding finger_rows one_rows taken_rows point_rows
 finger-fits one app h = (h.0.0, (h.0.1, (bit-fits one.moved, (h.1, (bit-fits one.long_sent, (lock-fits one.axis, (bit-fits one.grabbed, (bit-fits app.direct, (bit-fits one.early, (bit-fits app.captured, (bit-fits app.raw, tt)))))))))))
 
-end_fits : (end : MultiEnd) → TypedEnd end → Fits (end_rows end)
+end_fits : (end : Option ℕ) → TypedEnd end → Fits (end_rows end)
 unfolding end_rows end_number end_time
-end_fits Never h = (lit< tt, (lit< tt, tt))
-end_fits (At end) h = (lit< tt, (h, tt))
+end_fits None h = (lit< tt, (lit< tt, tt))
+end_fits (Some end) h = (lit< tt, (h, tt))
 
 -- Each part is what was written.
 
@@ -109,24 +104,24 @@ unfolding axis_from axes.axis_number tests.when◌then◌else◌
 axis-back H = refl
 axis-back «V» = refl
 
-lock-back : (x : AxisLock) → lock_from (lock_number x) ≡ x
+lock-back : (x : Option Axis) → lock_from (lock_number x) ≡ x
 unfolding lock_from lock_number axes.axis_number tests.when◌then◌else◌
-lock-back Free = refl
-lock-back (On H) = refl
-lock-back (On «V») = refl
+lock-back None = refl
+lock-back (Some H) = refl
+lock-back (Some «V») = refl
 
 touch-back : (x : Touch) → touch_from (touch_number x) (start_of x) (since_of x) (multi_of x) (pairing_from (pair_number (pairing_of x)) (pair_of (pairing_of x))) ≡ x
 unfolding touch_from touch_number start_of since_of multi_of pairing_of pairing_from pair_number pair_of tests.when◌then◌else◌
 touch-back touch.Idle = refl
 touch-back (touch.Down start since) = refl
-touch-back (touch.Multi m Unpaired) = refl
-touch-back (touch.Multi m (Paired r)) = refl
+touch-back (touch.Multi m None) = refl
+touch-back (touch.Multi m (Some r)) = refl
 touch-back touch.Residual = refl
 
-end_back : (end : MultiEnd) → end_from (end_number end) (end_time end) ≡ end
+end_back : (end : Option ℕ) → end_from (end_number end) (end_time end) ≡ end
 unfolding end_from end_number end_time tests.when◌then◌else◌
-end_back Never = refl
-end_back (At end) = refl
+end_back None = refl
+end_back (Some end) = refl
 
 -- Reading a part of the image, by the places of its rows.
 

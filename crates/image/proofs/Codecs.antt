@@ -1,11 +1,15 @@
 -- When decoding answers and when it refuses, and what storing leaves. Assumes nothing.
+use Rattle.std.specs.Prelude.{Result, Ok, Err}
 use Prim.Native.Nat.{ℕ}
 use mathlib.Core.Path.{◌≡◌, refl, sym, ◌∙◌, ap}
 use mathlib.Core.Bool.{Bool, true, false, true≢false}
 use mathlib.Core.List.{List, [], ◌∷◌}
 use lib.ListN.{length}
 use borrow.Author.Tests.{eqb-true, eq-eqb, ne_eqb}
-use Rattle.panel.specs.Refusals.{number_of}
+use Rattle.std.specs.Bool.{then_some}
+use Rattle.std.specs.Option.{ok_or}
+use Rattle.panel.specs.Tests as tests
+use Rattle.panel.specs.Tests.{when◌then◌else◌}
 use Rattle.panel.specs.declared.refusals.Refusal.{Refusal}
 use Rattle.panel.specs.declared.refusals.Refusal.TheVariants.{State}
 use Rattle.panel.proofs.Follow.{if-true, if-false, and-true, and-false, if-know}
@@ -15,11 +19,9 @@ use Rattle.gesture.specs.declared.record.Tracker.{Tracker}
 use Rattle.image.specs.Image.{image_of, image_bytes}
 use Rattle.image.specs.code.Settings.{at_end}
 use Rattle.image.specs.code.Whole.{tracker_at, image_checked}
-use Rattle.image.specs.code.Finding.{unruled_of}
+use Rattle.image.specs.code.Finding.{unruled_of, ruled_of}
 use Rattle.image.specs.Typed.{Bytes}
 use Rattle.image.specs.Codec.{same, is_image, decode_of, stored, encode_of}
-use Rattle.image.specs.declared.codec.DecodeAnswer.{DecodeAnswer}
-use Rattle.image.specs.declared.codec.DecodeAnswer.TheVariants.{Answered, Refused}
 use Rattle.image.proofs.Laid.{bytes-end, length-image}
 use Rattle.image.proofs.Exactly.{image-passes, image-again}
 
@@ -47,89 +49,126 @@ same-differ l m differ = by-test (same l m) refl
 -- Decoding.
 
 module _ (area : List ℕ) where
-  pub decode-image : image_of (tracker_at area) ≡ area → state_rule (tracker_at area) ≡ true → decode_of area ≡ Answered (tracker_at area)
+  pub decode-image : image_of (tracker_at area) ≡ area → state_rule (tracker_at area) ≡ true → decode_of area ≡ Ok (tracker_at area)
   unfolding decode_of is_image
   decode-image e v = if-true _ _ _ (and-true _ _ (ap (λ (l : List ℕ). same l area) e ∙ same_self area) ∙ v)
 
-  pub decode-other : (image_of (tracker_at area) ≡ area → ⊥) → decode_of area ≡ Refused State
+  pub decode-other : (image_of (tracker_at area) ≡ area → ⊥) → decode_of area ≡ Err State
   unfolding decode_of is_image
   decode-other differ = if-false _ _ _ (and-false _ _ (same-differ _ _ differ))
 
-  pub decode-length : (length area ≡ image_bytes → ⊥) → decode_of area ≡ Refused State
+  pub decode-length : (length area ≡ image_bytes → ⊥) → decode_of area ≡ Err State
   decode-length differ = decode-other (λ e. differ (sym (ap length e) ∙ length-image (tracker_at area) ∙ sym bytes-end))
+
+  pub refused-length : (length area ≡ at_end → ⊥) → Err State ≡ decode_of area
+  refused-length differ = sym (decode-length (λ same_bytes. differ (same_bytes ∙ bytes-end)))
 
 -- The same, from what the code looked at.
 
 module _ (area : List ℕ) (long : length area ≡ at_end) (bytes : Bytes area) where
-  pub found-answers : (t : Tracker) → t ≡ tracker_at area → image_checked area ≡ true → Answered t ≡ unruled_of area
+  pub found-answers : (t : Tracker) → t ≡ tracker_at area → image_checked area ≡ true → Ok t ≡ unruled_of area
   unfolding unruled_of is_image
-  found-answers t is passes = ap Answered is ∙ sym (if-true _ _ _ (ap (λ (l : List ℕ). same l area) (image-again area bytes long passes) ∙ same_self area))
+  found-answers t is passes = ap Ok is ∙ sym (if-true _ _ _ (ap (λ (l : List ℕ). same l area) (image-again area bytes long passes) ∙ same_self area))
 
-  pub found-fails : image_checked area ≡ false → Refused State ≡ unruled_of area
+  pub found-fails : image_checked area ≡ false → Err State ≡ unruled_of area
   unfolding unruled_of is_image
   found-fails fails = sym (if-false _ _ _ (same-differ _ _ (λ e. true≢false (sym (image-passes (tracker_at area)) ∙ ap image_checked e ∙ fails))))
 
-pub found-length : (area : List ℕ) → (length area ≡ at_end → ⊥) → Refused State ≡ unruled_of area
-unfolding unruled_of is_image
-found-length area differ = sym (if-false _ _ _ (same-differ _ _ (λ e. differ (sym (ap length e) ∙ length-image (tracker_at area)))))
-
 -- Decoding, from what was found.
 
-is-answered : DecodeAnswer → Bool
-is-answered (Answered t) = true
-is-answered (Refused why) = false
+is-answered : Result Tracker Refusal → Bool
+is-answered (Ok t) = true
+is-answered (Err why) = false
 
-the-tracker : Tracker → DecodeAnswer → Tracker
-the-tracker other (Answered t) = t
-the-tracker other (Refused why) = other
+the-tracker : Tracker → Result Tracker Refusal → Tracker
+the-tracker other (Ok t) = t
+the-tracker other (Err why) = other
 
 module _ (area : List ℕ) (t : Tracker) where
-  abbrev Holds : DecodeAnswer → Type 0
-  Holds d = Answered t ≡ d → (is_image area ≡ true) × (t ≡ tracker_at area)
+  abbrev Holds : Result Tracker Refusal → Type 0
+  Holds d = Ok t ≡ d → (is_image area ≡ true) × (t ≡ tracker_at area)
 
-  found-holds : Answered t ≡ unruled_of area → (is_image area ≡ true) × (t ≡ tracker_at area)
+  found-holds : Ok t ≡ unruled_of area → (is_image area ≡ true) × (t ≡ tracker_at area)
   unfolding unruled_of is-answered the-tracker
-  found-holds = if-know Holds _ (Answered (tracker_at area)) (Refused State) (λ yes e. (yes, ap (the-tracker t) e)) (λ other e. absurd (true≢false (ap is-answered e)))
+  found-holds = if-know Holds _ (Ok (tracker_at area)) (Err State) (λ yes e. (yes, ap (the-tracker t) e)) (λ other e. absurd (true≢false (ap is-answered e)))
 
-  module _ (is : Answered t ≡ unruled_of area) where
-    pub found-long : length area ≡ at_end
-    unfolding is_image
-    found-long = sym (ap length (same-equal _ _ (found-holds is).0)) ∙ length-image (tracker_at area)
-
-    pub decode-keeps : state_rule t ≡ true → Answered t ≡ decode_of area
+  module _ (is : Ok t ≡ unruled_of area) where
+    pub decode-keeps : state_rule t ≡ true → Ok t ≡ decode_of area
     unfolding decode_of
     decode-keeps kept =
         let h = found-holds is in
-        ap Answered h.1 ∙ sym (if-true _ _ _ (and-true _ _ h.0 ∙ ap state_rule (sym h.1) ∙ kept))
+        ap Ok h.1 ∙ sym (if-true _ _ _ (and-true _ _ h.0 ∙ ap state_rule (sym h.1) ∙ kept))
 
-    pub decode-breaks : state_rule t ≡ false → Refused State ≡ decode_of area
+    pub decode-breaks : state_rule t ≡ false → Err State ≡ decode_of area
     unfolding decode_of
     decode-breaks broken =
         let h = found-holds is in
         sym (if-false _ _ _ (and-true _ _ h.0 ∙ ap state_rule (sym h.1) ∙ broken))
 
-module _ (area : List ℕ) (why : Refusal) where
-  abbrev Fails : DecodeAnswer → Type 0
-  Fails d = Refused why ≡ d → Refused why ≡ decode_of area
+module _ (area : List ℕ) (t : Tracker) (is : Ok t ≡ unruled_of area) where
+  by-rule : (b : Bool) → state_rule t ≡ b → ruled_of t ≡ decode_of area
+  unfolding ruled_of
+  by-rule true kept = if-true _ _ _ kept ∙ decode-keeps area t is kept
+  by-rule false broken = if-false _ _ _ broken ∙ decode-breaks area t is broken
 
-  pub decode-fails : Refused why ≡ unruled_of area → Refused why ≡ decode_of area
+  pub decode-ruled : ruled_of t ≡ decode_of area
+  decode-ruled = by-rule (state_rule t) refl
+
+module _ (area : List ℕ) (why : Refusal) where
+  abbrev Fails : Result Tracker Refusal → Type 0
+  Fails d = Err why ≡ d → Err why ≡ decode_of area
+
+  pub decode-fails : Err why ≡ unruled_of area → Err why ≡ decode_of area
   unfolding unruled_of decode_of is-answered
   decode-fails =
-      if-know Fails _ (Answered (tracker_at area)) (Refused State)
+      if-know Fails _ (Ok (tracker_at area)) (Err State)
       (λ yes e. absurd (true≢false (sym (ap is-answered e))))
       (λ other e. e ∙ sym (if-false _ _ _ (and-false _ _ other)))
 
 -- Storing.
 
+module _ (t : Tracker) where
+  abbrev Keeps : Result Tracker Refusal → Type 0
+  Keeps d = (u : Tracker) → Ok u ≡ d → (u ≡ t) × (state_rule t ≡ true)
+
+  ruled-keeps : Keeps (ruled_of t)
+  unfolding ruled_of
+  ruled-keeps = if-know Keeps _ (Ok t) (Err State) (λ yes u e. (cc, yes)) (λ other u e. cc)
+
+  -- the same by std's words
+  by-bool : (b : Bool) → ok_or (then_some b t) State ≡ when◌then◌else◌ b (Ok t) (Err State)
+  unfolding tests.when◌then◌else◌
+  by-bool true = refl
+  by-bool false = refl
+
+  pub by-test : ok_or (then_some (state_rule t) t) State ≡ ruled_of t
+  unfolding ruled_of
+  by-test = by-bool (state_rule t)
+
+  abbrev Breaks : Result Tracker Refusal → Type 0
+  Breaks d = (why : Refusal) → Err why ≡ d → (why ≡ State) × (state_rule t ≡ false)
+
+  ruled-breaks : Breaks (ruled_of t)
+  unfolding ruled_of
+  ruled-breaks = if-know Breaks _ (Ok t) (Err State) (λ yes why e. cc) (λ other why e. (cc, other))
+
 module _ (t : Tracker) (area : List ℕ) where
-  pub encode-done : (after : List ℕ) → length area ≡ at_end → state_rule t ≡ true → after ≡ image_of t → stored 0 after ≡ encode_of t area
+  pub encode-length : (length area ≡ at_end → ⊥) → stored (Err State) area ≡ encode_of t area
   unfolding encode_of
-  encode-done after long kept e = ap (stored 0) e ∙ sym (if-true _ _ _ (and-true _ _ (eq-eqb _ _ (long ∙ sym bytes-end)) ∙ kept))
+  encode-length differ = sym (if-false _ _ _ (and-false _ _ (ne_eqb _ _ (λ same_bytes. differ (same_bytes ∙ bytes-end)))))
 
-  pub encode-length : (n : ℕ) → n ≡ number_of State → (length area ≡ at_end → ⊥) → stored n area ≡ encode_of t area
-  unfolding encode_of
-  encode-length n e differ = ap (λ (k : ℕ). stored k area) e ∙ sym (if-false _ _ _ (and-false _ _ (ne_eqb _ _ (λ same_bytes. differ (same_bytes ∙ bytes-end)))))
+  module _ (long : length area ≡ at_end) where
+    pub encode-done : (after : List ℕ) → state_rule t ≡ true → after ≡ image_of t → stored (Ok tt) after ≡ encode_of t area
+    unfolding encode_of
+    encode-done after kept e = ap (stored (Ok tt)) e ∙ sym (if-true _ _ _ (and-true _ _ (eq-eqb _ _ (long ∙ sym bytes-end)) ∙ kept))
 
-  pub encode-broken : (n : ℕ) → n ≡ number_of State → length area ≡ at_end → state_rule t ≡ false → stored n area ≡ encode_of t area
-  unfolding encode_of
-  encode-broken n e long broken = ap (λ (k : ℕ). stored k area) e ∙ sym (if-false _ _ _ (and-true _ _ (eq-eqb _ _ (long ∙ sym bytes-end)) ∙ broken))
+    pub encode-ruled : (u : Tracker) (after : List ℕ) → Ok u ≡ ruled_of t → after ≡ image_of u → stored (Ok tt) after ≡ encode_of t area
+    encode-ruled u after is e =
+        let h = ruled-keeps t u is in
+        encode-done after h.1 (e ∙ ap image_of h.0)
+
+    pub encode-broken : (why : Refusal) → Err why ≡ ruled_of t → stored (Err why) area ≡ encode_of t area
+    unfolding encode_of
+    encode-broken why is =
+        let h = ruled-breaks t why is in
+        ap (λ (w : Refusal). stored (Err w) area) h.0 ∙ sym (if-false _ _ _ (and-true _ _ (eq-eqb _ _ (long ∙ sym bytes-end)) ∙ h.1))

@@ -1,5 +1,6 @@
 -- What the code looks at is all there is to look at: an area of the image's length passes exactly if it is the image of
 -- the tracker that is read from it. Assumes nothing.
+use Rattle.std.specs.Prelude.{Option, Some, None}
 use Prim.Native.Nat.{ℕ, zero, suc, ◌+◌, ◌*◌, ◌%◌, ◌≤◌}
 use mathlib.Core.Path.{◌≡◌, refl, sym, ◌∙◌, ap}
 use mathlib.Core.Bool.{Bool, true, false, true≢false}
@@ -12,22 +13,16 @@ use Rattle.panel.specs.Tests as tests
 use Rattle.panel.specs.declared.points.Point.{Point}
 use Rattle.panel.specs.declared.axes.Axis.{Axis}
 use Rattle.panel.specs.declared.axes.Axis.TheVariants.{H, «V»}
-use Rattle.panel.specs.declared.axes.AxisLock.{AxisLock}
-use Rattle.panel.specs.declared.axes.AxisLock.TheVariants.{Free, On}
 use Rattle.panel.proofs.Follow.{if-true, if-false}
 use Rattle.panel.proofs.Laws.{and_left, and_right}
 use Rattle.fingers.specs.declared.one.One.{One}
 use Rattle.fingers.specs.declared.one.App.{App}
 use Rattle.fingers.specs.declared.several.Multi.{Multi}
-use Rattle.fingers.specs.declared.pair.Pairing.{Pairing}
-use Rattle.fingers.specs.declared.pair.Pairing.TheVariants.{Unpaired, Paired}
 use Rattle.panel.specs.Axes as axes
 use Rattle.panel.specs.Axes.{axis_number}
 use Rattle.gesture.specs.Trackers.{origin}
 use Rattle.gesture.specs.declared.record.Touch.{Touch}
 use Rattle.gesture.specs.declared.record.Touch.TheVariants as touch
-use Rattle.gesture.specs.declared.record.MultiEnd.{MultiEnd}
-use Rattle.gesture.specs.declared.record.MultiEnd.TheVariants.{Never, At}
 use Rattle.gesture.specs.declared.record.Tracker.{Tracker}
 use Rattle.image.specs.Rows.{Row, row, bytes_of, laid, total}
 use Rattle.image.specs.Image.{touch_number, start_of, since_of, multi_of, pairing_of, pair_number, pair_of, end_number, end_time, lock_number, zero_multi, point_rows, down_rows, multi_rows, pair_rows, pairing_rows, touch_rows, finger_rows, one_rows, taken_rows, end_rows, key_rows, setting_rows, table, image_of}
@@ -42,6 +37,7 @@ use Rattle.image.specs.Typed.{Bytes}
 use Rattle.image.proofs.Layouts.{read, read-laid, widths_of}
 use Rattle.image.proofs.Flags.{both, flag-passes, of_two, is-flag, flag-stands}
 use Rattle.image.proofs.SettingLaws.{settings-pass, setting-rows}
+use Rattle.fingers.specs.declared.pair.Pair.{Pair}
 
 -- An image passes.
 
@@ -50,25 +46,25 @@ unfolding axes.axis_number
 axis-passes H = refl
 axis-passes «V» = refl
 
-lock-passes : (x : AxisLock) → leb (lock_number x % 256 + 256 * 0) 2 ≡ true
+lock-passes : (x : Option Axis) → leb (lock_number x % 256 + 256 * 0) 2 ≡ true
 unfolding lock_number axes.axis_number
-lock-passes Free = refl
-lock-passes (On H) = refl
-lock-passes (On «V») = refl
+lock-passes None = refl
+lock-passes (Some H) = refl
+lock-passes (Some «V») = refl
 
 touch-passes : (x : Touch) (rest : List Row) → touch_checked (laid (touch_rows x ++ rest)) ≡ true
 unfolding touch_checked single_checked pairing_checked no_down no_multi no_pair is_zero is_flag number_at laid bytes_of touch_rows touch_number start_of since_of multi_of pairing_of pair_number pair_of down_rows multi_rows pairing_rows pair_rows point_rows axes.axis_number tests.when◌then◌else◌ tests.◌and◌
 touch-passes touch.Idle rest = refl
 touch-passes (touch.Down start since) rest = refl
-touch-passes (touch.Multi m Unpaired) rest = refl
-touch-passes (touch.Multi m (Paired r)) rest = axis-passes r.axis
+touch-passes (touch.Multi m None) rest = refl
+touch-passes (touch.Multi m (Some r)) rest = axis-passes r.axis
 touch-passes touch.Residual rest = refl
 
 module _ (x : Touch) (one : One) (app : App) where
-  end-passes : (end : MultiEnd) (rest : List Row) → end_checked (laid (touch_rows x ++ finger_rows one app ++ end_rows end ++ rest)) ≡ true
+  end-passes : (end : Option ℕ) (rest : List Row) → end_checked (laid (touch_rows x ++ finger_rows one app ++ end_rows end ++ rest)) ≡ true
   unfolding end_checked is_zero number_at laid bytes_of touch_rows down_rows multi_rows pairing_rows pair_rows point_rows finger_rows one_rows taken_rows end_rows end_number end_time tests.when◌then◌else◌
-  end-passes Never rest = refl
-  end-passes (At end) rest = refl
+  end-passes None rest = refl
+  end-passes (Some end) rest = refl
 
   one_passes : (rest : List Row) → one_checked (laid (touch_rows x ++ finger_rows one app ++ rest)) ≡ true
   unfolding one_checked is_flag number_at laid bytes_of touch_rows down_rows multi_rows pairing_rows pair_rows point_rows finger_rows one_rows taken_rows
@@ -251,7 +247,7 @@ module _ (area : List ℕ) where
   abbrev at_k : ℕ
   at_k = number_at area at_pairs 1
 
-  abbrev pairs_from : ℕ → Pairing
+  abbrev pairs_from : ℕ → Option Pair
   pairs_from k = pairing_from k (pair_at area)
 
   -- what stands in the area

@@ -2,13 +2,13 @@
 -- where it passed. Assumes nothing.
 use Prim.Native.Nat.{ℕ, zero, suc, ◌+◌, ◌*◌, ◌%◌, ◌≤◌, ◌<◌}
 use mathlib.Core.Path.{◌≡◌, refl, sym, ◌∙◌, ap}
-use mathlib.Core.Bool.{Bool, true, false}
+use mathlib.Core.Bool.{Bool, true, false, not}
 use mathlib.Core.List.{List}
 use native.Mathlib.Omega.{arith}
-use lib.Dec.{lit<, leb}
+use lib.Dec.{lit<, leb, eqb}
 use borrow.Author.Tests.{leb-true}
 use Rattle.panel.specs.Tests as tests
-use Rattle.panel.specs.Tests.{◌and◌, bit}
+use Rattle.panel.specs.Tests.{when◌then◌else◌, ◌and◌, bit}
 use Rattle.panel.proofs.Follow.{and-true}
 use Rattle.image.specs.code.Numbers.{number_at, flag_from, flag_at, is_flag}
 
@@ -24,6 +24,16 @@ pub bit-back : (b : Bool) → flag_from (bit b) ≡ b
 unfolding flag_from tests.bit tests.when◌then◌else◌
 bit-back true = refl
 bit-back false = refl
+
+by-not : (b : Bool) → not b ≡ when◌then◌else◌ b false true
+unfolding tests.when◌then◌else◌
+by-not true = refl
+by-not false = refl
+
+-- what is not 0 is true
+pub not-none : (n : ℕ) → not (eqb n 0) ≡ flag_from n
+unfolding flag_from
+not-none n = by-not (eqb n 0)
 
 -- as it is read from the one byte that it was written to
 pub flag-passes : (b : Bool) → leb (bit b % 256 + 256 * 0) 1 ≡ true

@@ -1,5 +1,6 @@
 -- The parts of a tracker, put one after another into a blank area, are its image; how long that is; the number of an axis;
--- and a copy of a whole area. Assumes nothing.
+-- the time of a stored end; and a copy of a whole area. Assumes nothing.
+use Rattle.std.specs.Prelude.{Option, Some, None, unwrap_or}
 use Prim.Native.Nat.{ℕ, ◌≤◌}
 use mathlib.Core.Path.{◌≡◌, refl, ◌∙◌, ap}
 use mathlib.Core.List.{List, ◌++◌, append-nil}
@@ -12,7 +13,7 @@ use Rattle.panel.specs.Axes.{axis_number}
 use Rattle.gesture.specs.Trackers.{fresh_tracker}
 use Rattle.gesture.specs.declared.record.Tracker.{Tracker}
 use Rattle.image.specs.Rows.{total}
-use Rattle.image.specs.Image.{image_bytes, point_rows, down_rows, multi_rows, pair_rows, pairing_rows, touch_rows, finger_rows, one_rows, taken_rows, end_rows, key_rows, setting_rows, table, image_of}
+use Rattle.image.specs.Image.{image_bytes, end_time, point_rows, down_rows, multi_rows, pair_rows, pairing_rows, touch_rows, finger_rows, one_rows, taken_rows, end_rows, key_rows, setting_rows, table, image_of}
 use Rattle.image.specs.code.Puts.{puts}
 use Rattle.image.specs.code.Touches.{at_touch}
 use Rattle.image.specs.code.Finger.{at_last}
@@ -53,6 +54,12 @@ pub axis-small : (a : Axis) → axis_number a ≤ 1
 unfolding axis_number
 axis-small H = omega arith
 axis-small «V» = omega arith
+
+-- the time of a stored end, 0 where there is none
+pub end-is : (end : Option ℕ) → unwrap_or end 0 ≡ end_time end
+unfolding end_time
+end-is None = refl
+end-is (Some time) = refl
 
 -- A copy of the whole.
 

@@ -1,4 +1,5 @@
 -- Each part of the tracker, written number by number, is its rows put. Assumes nothing.
+use Rattle.std.specs.Prelude.{Option}
 use Prim.Native.Nat.{ℕ}
 use mathlib.Core.Path.{◌≡◌, ◌∙◌}
 use mathlib.Core.Bool.{Bool}
@@ -12,7 +13,6 @@ use Rattle.fingers.specs.declared.several.Multi.{Multi}
 use Rattle.fingers.specs.declared.pair.Pair.{Pair}
 use Rattle.panel.specs.Axes.{axis_number}
 use Rattle.panel.specs.Tests.{bit}
-use Rattle.gesture.specs.declared.record.MultiEnd.{MultiEnd}
 use Rattle.image.specs.Rows.{bytes_of}
 use Rattle.image.specs.Image.{lock_number, end_number, end_time, point_rows, down_rows, multi_rows, pair_rows, finger_rows, one_rows, taken_rows, end_rows, key_rows}
 use Rattle.image.specs.code.Puts.{puts}
@@ -96,7 +96,7 @@ pub finger-put : (one : One) (app : App) (a0 a1 a2 : List ℕ) → a1 ≡ puts a
 unfolding puts point_rows one_rows taken_rows finger_rows
 finger-put one app a0 a1 a2 h1 h2 = h2 ∙ (λ i. puts (h1 i) at_direct (taken_rows one.early app))
 
-pub end-put : (end : MultiEnd) (a0 a1 a2 : List ℕ) (n1 n2 : ℕ)
+pub end-put : (end : Option ℕ) (a0 a1 a2 : List ℕ) (n1 n2 : ℕ)
     → n1 ≡ end_number end
     → a1 ≡ sets a0 at_ended (bytes_of 1 n1)
     → n2 ≡ end_time end

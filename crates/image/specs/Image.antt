@@ -3,28 +3,23 @@
 --
 -- "one lent byte area that holds the tracker. One tracker has one image (layout fixed in docs/, absent parts zero)". "grab
 -- time (0 at the start, set to at most 5000) and the raw wish (off) live in it."
-use Rattle.std.specs.Prelude.{ℕ, ◌+◌, Bool, List, [], ◌∷◌, ◌++◌}
+use Rattle.std.specs.Prelude.{ℕ, ◌+◌, Bool, List, [], ◌∷◌, ◌++◌, Option, Some, None}
 use Rattle.panel.specs.Axes.{axis_number}
 use Rattle.panel.specs.Tests.{bit}
 use Rattle.panel.specs.declared.points.Point.{Point}
 use Rattle.panel.specs.declared.axes.Axis.TheVariants.{H}
-use Rattle.panel.specs.declared.axes.AxisLock.{AxisLock}
-use Rattle.panel.specs.declared.axes.AxisLock.TheVariants.{Free, On}
 use Rattle.fingers.specs.declared.one.One.{One}
 use Rattle.fingers.specs.declared.one.App.{App}
 use Rattle.fingers.specs.declared.keys.Keys.{Keys}
 use Rattle.fingers.specs.declared.settings.Settings.{Settings}
 use Rattle.fingers.specs.declared.several.Multi.{Multi}
 use Rattle.fingers.specs.declared.pair.Pair.{Pair}
-use Rattle.fingers.specs.declared.pair.Pairing.{Pairing}
-use Rattle.fingers.specs.declared.pair.Pairing.TheVariants.{Unpaired, Paired}
 use Rattle.gesture.specs.Trackers.{origin, fresh_tracker}
 use Rattle.gesture.specs.declared.record.Touch.{Touch}
 use Rattle.gesture.specs.declared.record.Touch.TheVariants as touch
-use Rattle.gesture.specs.declared.record.MultiEnd.{MultiEnd}
-use Rattle.gesture.specs.declared.record.MultiEnd.TheVariants.{Never, At}
 use Rattle.gesture.specs.declared.record.Tracker.{Tracker}
 use Rattle.image.specs.Rows.{Row, row, laid, total}
+use Rattle.panel.specs.declared.axes.Axis.{Axis}
 
 -- Which parts are there, and the parts, zero where they are absent.
 
@@ -58,32 +53,32 @@ multi_of touch.Residual = zero_multi
 abbrev pub zero_pair : Pair
 zero_pair = record { a = origin; b = origin; axis = H; span0 = 0; c0 = origin; state = 0 }
 
-unfoldable pub pairing_of : Touch → Pairing
-pairing_of touch.Idle = Unpaired
-pairing_of (touch.Down start since) = Unpaired
+unfoldable pub pairing_of : Touch → Option Pair
+pairing_of touch.Idle = None
+pairing_of (touch.Down start since) = None
 pairing_of (touch.Multi m pair) = pair
-pairing_of touch.Residual = Unpaired
+pairing_of touch.Residual = None
 
-unfoldable pub pair_number : Pairing → ℕ
-pair_number Unpaired = 0
-pair_number (Paired r) = 1
+unfoldable pub pair_number : Option Pair → ℕ
+pair_number None = 0
+pair_number (Some r) = 1
 
-unfoldable pub pair_of : Pairing → Pair
-pair_of Unpaired = zero_pair
-pair_of (Paired r) = r
+unfoldable pub pair_of : Option Pair → Pair
+pair_of None = zero_pair
+pair_of (Some r) = r
 
-unfoldable pub end_number : MultiEnd → ℕ
-end_number Never = 0
-end_number (At end) = 1
+unfoldable pub end_number : Option ℕ → ℕ
+end_number None = 0
+end_number (Some end) = 1
 
-unfoldable pub end_time : MultiEnd → ℕ
-end_time Never = 0
-end_time (At end) = end
+unfoldable pub end_time : Option ℕ → ℕ
+end_time None = 0
+end_time (Some end) = end
 
 -- 0 while no axis is locked
-unfoldable pub lock_number : AxisLock → ℕ
-lock_number Free = 0
-lock_number (On a) = 1 + axis_number a
+unfoldable pub lock_number : Option Axis → ℕ
+lock_number None = 0
+lock_number (Some a) = 1 + axis_number a
 
 -- The table, part by part, in the order of the bytes.
 
@@ -101,7 +96,7 @@ unfoldable pub pair_rows : Pair → List Row
 pair_rows pair =
     point_rows pair.a ++ point_rows pair.b ++ row 1 (axis_number pair.axis) ∷ row 2 pair.span0 ∷ point_rows pair.c0 ++ row 1 pair.state ∷ []
 
-unfoldable pub pairing_rows : Pairing → List Row
+unfoldable pub pairing_rows : Option Pair → List Row
 pairing_rows pairing = row 1 (pair_number pairing) ∷ pair_rows (pair_of pairing)
 
 unfoldable pub touch_rows : Touch → List Row
@@ -124,7 +119,7 @@ taken_rows early app = row 1 (bit app.direct) ∷ row 1 (bit early) ∷ row 1 (b
 unfoldable pub finger_rows : One → App → List Row
 finger_rows one app = one_rows one ++ taken_rows one.early app
 
-unfoldable pub end_rows : MultiEnd → List Row
+unfoldable pub end_rows : Option ℕ → List Row
 end_rows end = row 1 (end_number end) ∷ row 8 (end_time end) ∷ []
 
 unfoldable pub key_rows : Keys → List Row

@@ -1,20 +1,16 @@
 -- What a tracker and an area of the code have by their types, and no rule has to say: bytes are 8 bits, places and spans
 -- 16, times 64.
-use Rattle.std.specs.Prelude.{ℕ, ◌^◌, ◌<◌, List, get_or}
+use Rattle.std.specs.Prelude.{ℕ, ◌^◌, ◌<◌, List, get_or, Option, Some, None}
 use Rattle.panel.specs.declared.points.Point.{Point}
 use Rattle.fingers.specs.declared.one.One.{One}
 use Rattle.fingers.specs.declared.keys.Keys.{Keys}
 use Rattle.fingers.specs.declared.settings.Settings.{Settings}
 use Rattle.fingers.specs.declared.several.Multi.{Multi}
 use Rattle.fingers.specs.declared.pair.Pair.{Pair}
-use Rattle.fingers.specs.declared.pair.Pairing.{Pairing}
-use Rattle.fingers.specs.declared.pair.Pairing.TheVariants.{Unpaired, Paired}
 use Rattle.image.specs.Rows.{Fits}
 use Rattle.image.specs.Image.{setting_rows}
 use Rattle.gesture.specs.declared.record.Touch.{Touch}
 use Rattle.gesture.specs.declared.record.Touch.TheVariants as touch
-use Rattle.gesture.specs.declared.record.MultiEnd.{MultiEnd}
-use Rattle.gesture.specs.declared.record.MultiEnd.TheVariants.{Never, At}
 use Rattle.gesture.specs.declared.record.Tracker.{Tracker}
 
 abbrev pub Byte : ℕ → Type 0
@@ -38,9 +34,9 @@ TypedMulti m = Byte m.n × TypedPoint m.c0 × Time m.t0 × TypedPoint m.c1 × Ti
 abbrev pub TypedPair : Pair → Type 0
 TypedPair r = TypedPoint r.a × TypedPoint r.b × Half r.span0 × TypedPoint r.c0 × Byte r.state
 
-abbrev pub TypedPairing : Pairing → Type 0
-TypedPairing Unpaired = Unit {0}
-TypedPairing (Paired r) = TypedPair r
+abbrev pub TypedPairing : Option Pair → Type 0
+TypedPairing None = Unit {0}
+TypedPairing (Some r) = TypedPair r
 
 abbrev pub TypedTouch : Touch → Type 0
 TypedTouch touch.Idle = Unit {0}
@@ -51,9 +47,9 @@ TypedTouch touch.Residual = Unit {0}
 abbrev pub TypedOne : One → Type 0
 TypedOne o = TypedPoint o.last × Half o.far
 
-abbrev pub TypedEnd : MultiEnd → Type 0
-TypedEnd Never = Unit {0}
-TypedEnd (At end) = Time end
+abbrev pub TypedEnd : Option ℕ → Type 0
+TypedEnd None = Unit {0}
+TypedEnd (Some end) = Time end
 
 abbrev pub TypedKeys : Keys → Type 0
 TypedKeys keys = Byte keys.told × Byte keys.wanted

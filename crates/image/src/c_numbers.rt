@@ -1,13 +1,14 @@
 // An answer as numbers: the gesture's code and its own numbers, then the log line.
 ghost use Rattle.std.specs.Prelude.{◌≡◌};
-ghost use Rattle.image.specs.Numbers.{coded, gesture_numbers, given_numbers, log_numbers, numbers_of};
+ghost use Rattle.image.specs.Numbers.{coded, gesture_numbers, given_numbers, log_numbers, listed};
 
-use gesture::{Answer, Gesture, Given, Log};
-use panel::{Point, wide8, wide16};
+use gesture::{Gesture, Line, Response};
+use panel::Point;
 
 pub const ANSWER_NUMBERS: usize = 11;
 
-// A gesture's code number, 0 for none, and its numbers in the order of its fields.
+// A gesture's code number, 0 for none, and its numbers in the order of its fields. Each has a name, by which
+// tools/header reads the places of the C header from the definition `listed`.
 #[derive(Clone, Copy)]
 struct GestureNumbers {
     code: u64,
@@ -44,12 +45,8 @@ fn counted(code: u64, n: u8) -> GestureNumbers
     ensures { result ≡ coded code n 0 0 0 0 }
 {
     GestureNumbers {
-        code,
-        a: wide8(n),
-        b: 0,
-        c: 0,
-        d: 0,
-        e: 0,
+        a: u64::from(n),
+        ..alone(code)
     }
 }
 
@@ -57,12 +54,9 @@ fn at(code: u64, p: Point) -> GestureNumbers
     ensures { result ≡ coded code p.x p.y 0 0 0 }
 {
     GestureNumbers {
-        code,
-        a: wide16(p.x),
-        b: wide16(p.y),
-        c: 0,
-        d: 0,
-        e: 0,
+        a: u64::from(p.x),
+        b: u64::from(p.y),
+        ..alone(code)
     }
 }
 
@@ -70,12 +64,10 @@ fn between(code: u64, p: Point, q: Point, n: u8) -> GestureNumbers
     ensures { result ≡ coded code p.x p.y q.x q.y n }
 {
     GestureNumbers {
-        code,
-        a: wide16(p.x),
-        b: wide16(p.y),
-        c: wide16(q.x),
-        d: wide16(q.y),
-        e: wide8(n),
+        c: u64::from(q.x),
+        d: u64::from(q.y),
+        e: u64::from(n),
+        ..at(code, p)
     }
 }
 
@@ -83,12 +75,9 @@ fn spans(code: u64, axis: u8, span0: u16, span: u16) -> GestureNumbers
     ensures { result ≡ coded code axis span0 span 0 0 }
 {
     GestureNumbers {
-        code,
-        a: wide8(axis),
-        b: wide16(span0),
-        c: wide16(span),
-        d: 0,
-        e: 0,
+        b: u64::from(span0),
+        c: u64::from(span),
+        ..counted(code, axis)
     }
 }
 
@@ -100,7 +89,7 @@ fn gesture_numbers(g: Gesture) -> GestureNumbers
         Gesture::Down(p) => at(1, p),
         Gesture::Tap(p) => at(2, p),
         Gesture::LongPress(p) => at(3, p),
-        Gesture::Drag(start, p, a) => between(4, start, p, panel::axis_number(a)),
+        Gesture::Drag(start, p, a) => between(4, start, p, u8::from(a)),
         Gesture::Grab(p) => at(5, p),
         Gesture::Up(p) => at(6, p),
         Gesture::SwipeLeft => alone(7),
@@ -112,51 +101,46 @@ fn gesture_numbers(g: Gesture) -> GestureNumbers
         Gesture::KeyDown(key) => counted(13, key),
         Gesture::KeyUp(key) => counted(14, key),
         Gesture::Move(prev, p) => between(15, prev, p, 0),
-        Gesture::Pinch(a, span0, span) => spans(16, panel::axis_number(a), span0, span),
+        Gesture::Pinch(a, span0, span) => spans(16, u8::from(a), span0, span),
         Gesture::PinchEnd(released) => counted(17, panel::bit(released)),
     }
 }
 
-fn given_numbers(given: Given) -> GestureNumbers
+fn given_numbers(given: Option<Gesture>) -> GestureNumbers
     ensures { result ≡ given_numbers given }
 {
     match given {
-        Given::Nothing => alone(0),
-        Given::Gave(g) => gesture_numbers(g),
+        None => alone(0),
+        Some(g) => gesture_numbers(g),
     }
 }
 
-fn log_numbers(log: Log) -> LogNumbers
+fn log_numbers(log: Option<Line>) -> LogNumbers
     ensures { result ≡ log_numbers log }
 {
     match log {
-        Log::Silent => LogNumbers {
+        None => LogNumbers {
             letter: 0,
             argument: 0,
             x: 0,
             y: 0,
             time: 0,
         },
-        Log::Logged(l) => {
-            let p = l.p;
-            LogNumbers {
-                letter: wide8(l.letter),
-                argument: wide8(l.argument),
-                x: wide16(p.x),
-                y: wide16(p.y),
-                time: l.time,
-            }
-        }
+        Some(l) => LogNumbers {
+            letter: u64::from(l.letter),
+            argument: u64::from(l.argument),
+            x: u64::from(l.p.x),
+            y: u64::from(l.p.y),
+            time: l.time,
+        },
     }
 }
 
-pub(crate) fn numbers_of(a: Answer) -> [u64; ANSWER_NUMBERS]
-    ensures { result ≡ numbers_of a }
+pub(crate) fn numbers_of(r: Response) -> [u64; ANSWER_NUMBERS]
+    ensures { result ≡ listed (given_numbers r.gesture) (log_numbers r.log) }
 {
-    let given = a.gesture;
-    let log = a.log;
-    let g = given_numbers(given);
-    let l = log_numbers(log);
+    let g = given_numbers(r.gesture);
+    let l = log_numbers(r.log);
     [
         g.code, g.a, g.b, g.c, g.d, g.e, l.letter, l.argument, l.x, l.y, l.time,
     ]

@@ -1,7 +1,11 @@
 // Numbers of one, two, four and eight bytes in an image, low byte first, points as two numbers of two, and flags as a
-// number of one. Each place is a literal where these are called, so that the bytes of a number are loaded and stored at
-// once.
-ghost use Rattle.std.specs.Prelude.{◌≡◌, ◌+◌, ◌*◌, ◌≤◌, ◌<◌, ◌/◌, ◌%◌, length};
+// number of one. Each place is a constant where these are called, so that the bytes of a number are loaded and stored
+// at once.
+//
+// A function for each width, of one line over the generic `put` and `get`. Each contract names its width
+// (`bytes_of 2 v`, `number_at image.now place.at 2`), and a trait over the number types would be an impl of the same
+// line for each of them, with its laws besides: longer, and no plainer.
+ghost use Rattle.std.specs.Prelude.{◌≡◌, ◌+◌, ◌≤◌, take, drop};
 ghost use Rattle.std.proofs.lemmas.List.Edits.{sets};
 ghost use Rattle.panel.specs.Tests.{bit};
 ghost use Rattle.image.specs.Rows.{bytes_of};
@@ -10,50 +14,49 @@ ghost use Rattle.image.specs.code.Numbers.{number_at, point_at, flag_from, flag_
 ghost use Rattle.image.specs.code.Puts.{puts};
 ghost use Rattle.image.specs.code.Settings.{at_end};
 
+use crate::settings::Image;
 use panel::Point;
 
-// A byte in a wider number. That it is less than 256 is said as well: a caller that takes it out of an image does not
-// know it by itself.
-fn wide8(x: u8) -> u64
-    ensures { (result ≡ x) × (result < 256) }
-{
-    x as u64
+// Where N bytes of an image stand.
+#[derive(Clone, Copy)]
+pub(crate) struct Place<const N: usize> {
+    pub(crate) at: usize,
+    ghost within: { at + N ≤ at_end },
 }
 
-fn half(x: u8) -> u16
-    ensures { (result ≡ x) × (result < 256) }
+// Stores bytes, as many as there are.
+fn put<const N: usize>(image: &mut Image, place: Place<N>, bytes: [u8; N])
+    ensures { image.new ≡ sets image.old place.entry.at bytes.entry }
 {
-    x as u16
+    image[place.at..place.at + N].copy_from_slice(&bytes);
 }
 
-pub(crate) fn put1(image: &mut [u8], at: usize, v: u8)
-    requires { (length image.old ≡ at_end) × (at + 1 ≤ at_end) }
-    ensures { image.new ≡ sets image.old at (bytes_of 1 v) }
+pub(crate) fn put1(image: &mut Image, place: Place<1>, v: u8)
+    ensures { image.new ≡ sets image.old place.at (bytes_of 1 v) }
 {
-    image[at] = v;
+    put(image, place, [v]);
 }
 
-pub(crate) fn put2(image: &mut [u8], at: usize, v: u16)
-    requires { (length image.old ≡ at_end) × (at + 2 ≤ at_end) }
-    ensures { image.new ≡ sets image.old at (bytes_of 2 v) }
+pub(crate) fn put2(image: &mut Image, place: Place<2>, v: u16)
+    ensures { image.new ≡ sets image.old place.at (bytes_of 2 v) }
 {
-    image[at] = (v % 256) as u8;
-    image[at + 1] = (v / 256 % 256) as u8;
+    put(image, place, v.to_le_bytes());
 }
 
-// By shifts and masks: no number of 64 bits is divided in the firmware.
-pub(crate) fn put8(image: &mut [u8], at: usize, v: u64)
-    requires { (length image.old ≡ at_end) × (at + 8 ≤ at_end) }
-    ensures { image.new ≡ sets image.old at (bytes_of 8 v) }
+// By shifts and masks, each byte by itself: the library divides a number for its bytes, and none of 64 bits is divided in the
+// firmware.
+pub(crate) fn put8(image: &mut Image, place: Place<8>, time: u64)
+    ensures { image.new ≡ sets image.old place.at (bytes_of 8 time) }
 {
-    let v1 = v >> 8;
+    let at = place.at;
+    let v1 = time >> 8;
     let v2 = v1 >> 8;
     let v3 = v2 >> 8;
     let v4 = v3 >> 8;
     let v5 = v4 >> 8;
     let v6 = v5 >> 8;
     let v7 = v6 >> 8;
-    image[at] = (v & 255) as u8;
+    image[at] = (time & 255) as u8;
     image[at + 1] = (v1 & 255) as u8;
     image[at + 2] = (v2 & 255) as u8;
     image[at + 3] = (v3 & 255) as u8;
@@ -63,90 +66,83 @@ pub(crate) fn put8(image: &mut [u8], at: usize, v: u64)
     image[at + 7] = (v7 & 255) as u8;
 }
 
-pub(crate) fn put_point(image: &mut [u8], at: usize, p: Point)
-    requires { (length image.old ≡ at_end) × (at + 4 ≤ at_end) }
-    ensures { image.new ≡ puts image.old at (point_rows p) }
+pub(crate) fn put_point(image: &mut Image, place: Place<4>, p: Point)
+    ensures { image.new ≡ puts image.old place.at (point_rows p) }
 {
-    put2(image, at, p.x);
-    put2(image, at + 2, p.y);
+    put2(image, Place { at: place.at }, p.x);
+    put2(image, Place { at: place.at + 2 }, p.y);
 }
 
-pub(crate) fn put_flag(image: &mut [u8], at: usize, b: bool)
-    requires { (length image.old ≡ at_end) × (at + 1 ≤ at_end) }
-    ensures { image.new ≡ sets image.old at (bytes_of 1 (bit b)) }
+pub(crate) fn put_flag(image: &mut Image, place: Place<1>, b: bool)
+    ensures { image.new ≡ sets image.old place.at (bytes_of 1 (bit b)) }
 {
-    put1(image, at, panel::bit(b));
+    put1(image, place, panel::bit(b));
 }
 
-pub(crate) fn get1(image: &[u8], at: usize) -> u8
-    requires { (length image.now ≡ at_end) × (at + 1 ≤ at_end) }
-    ensures { result ≡ number_at image.now at 1 }
+// The bytes of a number, as many as are asked for.
+fn get<const N: usize>(image: &Image, place: Place<N>) -> [u8; N]
+    ensures { result ≡ take N (drop place.entry.at image.now) }
 {
-    image[at]
+    let mut bytes = [0; N];
+    bytes.copy_from_slice(&image[place.at..place.at + N]);
+    bytes
 }
 
-pub(crate) fn get2(image: &[u8], at: usize) -> u16
-    requires { (length image.now ≡ at_end) × (at + 2 ≤ at_end) }
-    ensures { result ≡ number_at image.now at 2 }
+pub(crate) fn get1(image: &Image, place: Place<1>) -> u8
+    ensures { result ≡ number_at image.now place.at 1 }
 {
-    let low = half(image[at]);
-    let high = half(image[at + 1]);
-    low + 256 * high
+    image[place.at]
 }
 
-pub(crate) fn get4(image: &[u8], at: usize) -> u64
-    requires { (length image.now ≡ at_end) × (at + 4 ≤ at_end) }
-    ensures { (result ≡ number_at image.now at 4) × (result < 4294967296) }
+pub(crate) fn get2(image: &Image, place: Place<2>) -> u16
+    ensures { result ≡ number_at image.now place.at 2 }
 {
-    let b0 = wide8(image[at]);
-    let b1 = wide8(image[at + 1]);
-    let b2 = wide8(image[at + 2]);
-    let b3 = wide8(image[at + 3]);
-    b0 + 256 * (b1 + 256 * (b2 + 256 * b3))
+    u16::from_le_bytes(get(image, place))
 }
 
-pub(crate) fn get8(image: &[u8], at: usize) -> u64
-    requires { (length image.now ≡ at_end) × (at + 8 ≤ at_end) }
-    ensures { result ≡ number_at image.now at 8 }
+pub(crate) fn get4(image: &Image, place: Place<4>) -> u32
+    ensures { result ≡ number_at image.now place.at 4 }
 {
-    let low = get4(image, at);
-    let high = get4(image, at + 4);
-    low + 4294967296 * high
+    u32::from_le_bytes(get(image, place))
 }
 
-pub(crate) fn get_point(image: &[u8], at: usize) -> Point
-    requires { (length image.now ≡ at_end) × (at + 4 ≤ at_end) }
-    ensures { result ≡ point_at image.now at }
+pub(crate) fn get8(image: &Image, place: Place<8>) -> u64
+    ensures { result ≡ number_at image.now place.at 8 }
+{
+    u64::from_le_bytes(get(image, place))
+}
+
+pub(crate) fn get_point(image: &Image, place: Place<4>) -> Point
+    ensures { result ≡ point_at image.now place.at }
 {
     Point {
-        x: get2(image, at),
-        y: get2(image, at + 2),
+        x: get2(image, Place { at: place.at }),
+        y: get2(image, Place { at: place.at + 2 }),
     }
 }
 
+// No TryFrom: the byte may be any number, is_image looks at it (is_flag), and an error of this would never be looked
+// at.
 fn flag(n: u8) -> bool
     ensures { result ≡ flag_from n }
 {
-    if n == 0 { false } else { true }
+    n != 0
 }
 
-pub(crate) fn get_flag(image: &[u8], at: usize) -> bool
-    requires { (length image.now ≡ at_end) × (at + 1 ≤ at_end) }
-    ensures { result ≡ flag_at image.now at }
+pub(crate) fn get_flag(image: &Image, place: Place<1>) -> bool
+    ensures { result ≡ flag_at image.now place.at }
 {
-    flag(get1(image, at))
+    flag(get1(image, place))
 }
 
-pub(crate) fn is_flag(image: &[u8], at: usize) -> bool
-    requires { (length image.now ≡ at_end) × (at + 1 ≤ at_end) }
-    ensures { result ≡ is_flag image.now at }
+pub(crate) fn is_flag(image: &Image, place: Place<1>) -> bool
+    ensures { result ≡ is_flag image.now place.at }
 {
-    get1(image, at) <= 1
+    get1(image, place) <= 1
 }
 
-pub(crate) fn is_zero8(image: &[u8], at: usize) -> bool
-    requires { (length image.now ≡ at_end) × (at + 8 ≤ at_end) }
-    ensures { result ≡ is_zero image.now at 8 }
+pub(crate) fn is_zero8(image: &Image, place: Place<8>) -> bool
+    ensures { result ≡ is_zero image.now place.at 8 }
 {
-    get8(image, at) == 0
+    get8(image, place) == 0
 }

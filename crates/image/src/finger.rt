@@ -1,66 +1,69 @@
 // What the one finger did and what the app made of its touch, whose rows stand among one another: their places, the rows
 // written, read and looked at.
-ghost use Rattle.std.specs.Prelude.{◌≡◌, length};
+ghost use Rattle.std.specs.Prelude.{◌≡◌};
 ghost use Rattle.image.specs.Image.{lock_number, one_rows, taken_rows, finger_rows};
 ghost use Rattle.image.specs.code.Puts.{puts};
-ghost use Rattle.image.specs.code.Settings.{at_end};
 ghost use Rattle.image.specs.code.Finger.{at_last, at_direct, lock_from, one_at, app_at, one_checked, app_checked};
 
 use crate::fields;
+use crate::fields::Place;
+use crate::settings::Image;
 use crate::touches::TOUCH_END;
 use fingers::{App, One};
-use panel::{Axis, AxisLock};
+use panel::Axis;
 
-// The largest number of an axis lock.
+// The largest number of an axis lock. A number, as docs/IMAGE.md gives it: the byte of an area may be any.
 const LOCK_MOST: u8 = 2;
 
-const LAST: usize = TOUCH_END;
+const LAST: Place<4> = Place { at: TOUCH_END };
 
-const MOVED: usize = LAST + 4;
+const MOVED: Place<1> = Place { at: LAST.at + 4 };
 
-const FAR: usize = MOVED + 1;
+const FAR: Place<2> = Place { at: MOVED.at + 1 };
 
-const LONG_SENT: usize = FAR + 2;
+const LONG_SENT: Place<1> = Place { at: FAR.at + 2 };
 
-const AXIS: usize = LONG_SENT + 1;
+const AXIS: Place<1> = Place {
+    at: LONG_SENT.at + 1,
+};
 
-const GRABBED: usize = AXIS + 1;
+const GRABBED: Place<1> = Place { at: AXIS.at + 1 };
 
-const DIRECT: usize = GRABBED + 1;
+const DIRECT: Place<1> = Place { at: GRABBED.at + 1 };
 
-const EARLY: usize = DIRECT + 1;
+const EARLY: Place<1> = Place { at: DIRECT.at + 1 };
 
-const CAPTURED: usize = EARLY + 1;
+const CAPTURED: Place<1> = Place { at: EARLY.at + 1 };
 
-const RAW: usize = CAPTURED + 1;
+const RAW: Place<1> = Place {
+    at: CAPTURED.at + 1,
+};
 
-pub(crate) const FINGER_END: usize = RAW + 1;
+pub(crate) const FINGER_END: usize = RAW.at + 1;
 
-fn lock_number(axis: AxisLock) -> u8
+// By hand, and no From: the number is the layout's for Option<Axis>, a type of std, and the definition `lock_number`
+// has it.
+fn lock_number(axis: Option<Axis>) -> u8
     ensures { result ≡ lock_number axis }
 {
     match axis {
-        AxisLock::Free => 0,
-        AxisLock::On(a) => 1 + panel::axis_number(a),
+        None => 0,
+        Some(a) => 1 + u8::from(a),
     }
 }
 
-fn put_one(image: &mut [u8], one: One)
-    requires { length image.old ≡ at_end }
+fn put_one(image: &mut Image, one: One)
     ensures { image.new ≡ puts image.old at_last (one_rows one) }
 {
-    let last = one.last;
-    let axis = one.axis;
-    fields::put_point(image, LAST, last);
+    fields::put_point(image, LAST, one.last);
     fields::put_flag(image, MOVED, one.moved);
     fields::put2(image, FAR, one.far);
     fields::put_flag(image, LONG_SENT, one.long_sent);
-    fields::put1(image, AXIS, lock_number(axis));
+    fields::put1(image, AXIS, lock_number(one.axis));
     fields::put_flag(image, GRABBED, one.grabbed);
 }
 
-fn put_taken(image: &mut [u8], early: bool, app: App)
-    requires { length image.old ≡ at_end }
+fn put_taken(image: &mut Image, early: bool, app: App)
     ensures { image.new ≡ puts image.old at_direct (taken_rows early app) }
 {
     fields::put_flag(image, DIRECT, app.direct);
@@ -69,28 +72,28 @@ fn put_taken(image: &mut [u8], early: bool, app: App)
     fields::put_flag(image, RAW, app.raw);
 }
 
-pub(crate) fn put_finger(image: &mut [u8], one: One, app: App)
-    requires { length image.old ≡ at_end }
+pub(crate) fn put_finger(image: &mut Image, one: One, app: App)
     ensures { image.new ≡ puts image.old at_last (finger_rows one app) }
 {
     put_one(image, one);
     put_taken(image, one.early, app);
 }
 
-fn lock_from(n: u8) -> AxisLock
+// No TryFrom: the byte may be any number, is_image looks at it (one_checked), and an error of this would never be
+// looked at.
+fn lock_from(n: u8) -> Option<Axis>
     ensures { result ≡ lock_from n }
 {
     if n == 0 {
-        return AxisLock::Free;
+        return None;
     }
     if n == 1 {
-        return AxisLock::On(Axis::H);
+        return Some(Axis::H);
     }
-    AxisLock::On(Axis::V)
+    Some(Axis::V)
 }
 
-pub(crate) fn one_at(image: &[u8]) -> One
-    requires { length image.now ≡ at_end }
+pub(crate) fn one_at(image: &Image) -> One
     ensures { result ≡ one_at image.now }
 {
     One {
@@ -104,8 +107,7 @@ pub(crate) fn one_at(image: &[u8]) -> One
     }
 }
 
-pub(crate) fn app_at(image: &[u8]) -> App
-    requires { length image.now ≡ at_end }
+pub(crate) fn app_at(image: &Image) -> App
     ensures { result ≡ app_at image.now }
 {
     App {
@@ -115,8 +117,7 @@ pub(crate) fn app_at(image: &[u8]) -> App
     }
 }
 
-pub(crate) fn one_checked(image: &[u8]) -> bool
-    requires { length image.now ≡ at_end }
+pub(crate) fn one_checked(image: &Image) -> bool
     ensures { result ≡ one_checked image.now }
 {
     if fields::is_flag(image, MOVED) {
@@ -134,8 +135,7 @@ pub(crate) fn one_checked(image: &[u8]) -> bool
     false
 }
 
-pub(crate) fn app_checked(image: &[u8]) -> bool
-    requires { length image.now ≡ at_end }
+pub(crate) fn app_checked(image: &Image) -> bool
     ensures { result ≡ app_checked image.now }
 {
     if fields::is_flag(image, DIRECT) {

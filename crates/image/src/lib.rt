@@ -14,6 +14,6 @@ mod touches;
 mod whole;
 
 pub use c_numbers::ANSWER_NUMBERS;
-pub use calls::{AreaGrab, grab_ms, make, plain};
-pub use codec::{DecodeAnswer, decode, encode, encode_fresh};
+pub use calls::{grab_ms, make};
+pub use codec::{decode, encode, encode_fresh};
 pub use settings::IMAGE_BYTES;

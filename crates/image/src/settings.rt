@@ -1,29 +1,31 @@
 // The settings, which stand last: their places, their rows written, read and looked at, and so the length of an image.
-ghost use Rattle.std.specs.Prelude.{◌≡◌, length};
+ghost use Rattle.std.specs.Prelude.{◌≡◌};
 ghost use Rattle.image.specs.Image.{setting_rows};
 ghost use Rattle.image.specs.code.Puts.{puts};
-ghost use Rattle.image.specs.code.Settings.{at_grab, at_end, SettingsRead, settings_checked};
+ghost use Rattle.image.specs.code.Settings.{at_grab, SettingsRead, settings_checked};
 
 use crate::fields;
+use crate::fields::Place;
 use crate::keys::KEYS_END;
 use fingers::Settings;
 
-const GRAB: usize = KEYS_END;
+const GRAB: Place<2> = Place { at: KEYS_END };
 
-const RAW_NEXT: usize = GRAB + 2;
+const RAW_NEXT: Place<1> = Place { at: GRAB.at + 2 };
 
-pub const IMAGE_BYTES: usize = RAW_NEXT + 1;
+pub const IMAGE_BYTES: usize = RAW_NEXT.at + 1;
 
-pub(crate) fn put_settings(image: &mut [u8], s: Settings)
-    requires { length image.old ≡ at_end }
+// The bytes of an area of the image's length, whether or not they are an image.
+pub(crate) type Image = [u8; IMAGE_BYTES];
+
+pub(crate) fn put_settings(image: &mut Image, s: Settings)
     ensures { image.new ≡ puts image.old at_grab (setting_rows s) }
 {
     fields::put2(image, GRAB, s.grab_ms);
     fields::put_flag(image, RAW_NEXT, s.raw_next);
 }
 
-pub(crate) fn settings_at(image: &[u8]) -> Settings
-    requires { length image.now ≡ at_end }
+pub(crate) fn settings_at(image: &Image) -> Settings
     ensures { SettingsRead image.now result }
 {
     Settings {
@@ -32,8 +34,7 @@ pub(crate) fn settings_at(image: &[u8]) -> Settings
     }
 }
 
-pub(crate) fn settings_checked(image: &[u8]) -> bool
-    requires { length image.now ≡ at_end }
+pub(crate) fn settings_checked(image: &Image) -> bool
     ensures { result ≡ settings_checked image.now }
 {
     fields::is_flag(image, RAW_NEXT)

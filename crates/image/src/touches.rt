@@ -1,8 +1,7 @@
 // The touch in an image: its places, its rows written, read and looked at. The area is all zero before it is written: a part
 // that is absent stays so.
-ghost use Rattle.std.specs.Prelude.{◌≡◌, length, replicate};
+ghost use Rattle.std.specs.Prelude.{◌≡◌, replicate, None};
 ghost use Rattle.panel.specs.declared.points.Point.{Point};
-ghost use Rattle.fingers.specs.declared.pair.Pairing.TheVariants.{Unpaired};
 ghost use Rattle.image.specs.Image.{down_rows, multi_rows, pair_rows, pairing_rows, touch_rows};
 ghost use Rattle.image.specs.code.Numbers.{number_at};
 ghost use Rattle.image.specs.code.Puts.{puts};
@@ -10,11 +9,14 @@ ghost use Rattle.image.specs.code.Settings.{at_end};
 ghost use Rattle.image.specs.code.Touches.{at_touch, at_start, at_multi_n, at_pairs, at_pair_a, axis_from, pairing_from, multi_at, pair_at, touch_at, no_down, no_multi, no_pair, pairing_checked, single_checked, touch_checked};
 
 use crate::fields;
-use fingers::{Multi, Pair, Pairing};
+use crate::fields::Place;
+use crate::settings::Image;
+use fingers::{Multi, Pair};
 use gesture::Touch;
 use panel::{Axis, Point};
 
-// Which touch is on, where one is: 0 is none.
+// Which touch is on, where one is: 0 is none. These, and PRESENT below, are the layout's numbers (docs/IMAGE.md) and
+// no enum: an area holds any byte, and is asked for these.
 const DOWN: u8 = 1;
 
 const MULTI: u8 = 2;
@@ -25,91 +27,112 @@ const RESIDUAL: u8 = 3;
 pub(crate) const PRESENT: u8 = 1;
 
 // Where each row stands: after the rows before it. The definitions have the same names.
-const TOUCH: usize = 0;
+const TOUCH: Place<1> = Place { at: 0 };
 
-const START: usize = TOUCH + 1;
+const START: Place<4> = Place { at: TOUCH.at + 1 };
 
-const SINCE: usize = START + 4;
+const SINCE: Place<8> = Place { at: START.at + 4 };
 
-const MULTI_N: usize = SINCE + 8;
+const MULTI_N: Place<1> = Place { at: SINCE.at + 8 };
 
-const MULTI_C0: usize = MULTI_N + 1;
+const MULTI_C0: Place<4> = Place { at: MULTI_N.at + 1 };
 
-const MULTI_T0: usize = MULTI_C0 + 4;
+const MULTI_T0: Place<8> = Place {
+    at: MULTI_C0.at + 4,
+};
 
-const MULTI_C1: usize = MULTI_T0 + 8;
+const MULTI_C1: Place<4> = Place {
+    at: MULTI_T0.at + 8,
+};
 
-const MULTI_T1: usize = MULTI_C1 + 4;
+const MULTI_T1: Place<8> = Place {
+    at: MULTI_C1.at + 4,
+};
 
-const PAIRS: usize = MULTI_T1 + 8;
+const PAIRS: Place<1> = Place {
+    at: MULTI_T1.at + 8,
+};
 
-const PAIR_A: usize = PAIRS + 1;
+const PAIR_A: Place<4> = Place { at: PAIRS.at + 1 };
 
-const PAIR_B: usize = PAIR_A + 4;
+const PAIR_B: Place<4> = Place { at: PAIR_A.at + 4 };
 
-const PAIR_AXIS: usize = PAIR_B + 4;
+const PAIR_AXIS: Place<1> = Place { at: PAIR_B.at + 4 };
 
-const SPAN0: usize = PAIR_AXIS + 1;
+const SPAN0: Place<2> = Place {
+    at: PAIR_AXIS.at + 1,
+};
 
-const PAIR_C0: usize = SPAN0 + 2;
+const PAIR_C0: Place<4> = Place { at: SPAN0.at + 2 };
 
-const PAIR_STATE: usize = PAIR_C0 + 4;
+const PAIR_STATE: Place<1> = Place { at: PAIR_C0.at + 4 };
 
-pub(crate) const TOUCH_END: usize = PAIR_STATE + 1;
+pub(crate) const TOUCH_END: usize = PAIR_STATE.at + 1;
 
-fn put_down(image: &mut [u8], start: Point, since: u64)
-    requires { length image.old ≡ at_end }
+// Several fingers with the mark of a pair, and a pair, as it is looked at whether they are absent: eight bytes at a time.
+const MULTI_FIRST: Place<8> = Place { at: MULTI_N.at };
+
+const MULTI_SECOND: Place<8> = Place {
+    at: MULTI_FIRST.at + 8,
+};
+
+const MULTI_THIRD: Place<8> = Place {
+    at: MULTI_SECOND.at + 8,
+};
+
+const MULTI_LAST: Place<2> = Place {
+    at: MULTI_THIRD.at + 8,
+};
+
+const PAIR_FIRST: Place<8> = Place { at: PAIR_A.at };
+
+const PAIR_SECOND: Place<8> = Place {
+    at: PAIR_FIRST.at + 8,
+};
+
+fn put_down(image: &mut Image, start: Point, since: u64)
     ensures { image.new ≡ puts image.old at_start (down_rows start since) }
 {
     fields::put_point(image, START, start);
     fields::put8(image, SINCE, since);
 }
 
-fn put_multi(image: &mut [u8], m: Multi)
-    requires { length image.old ≡ at_end }
+fn put_multi(image: &mut Image, m: Multi)
     ensures { image.new ≡ puts image.old at_multi_n (multi_rows m) }
 {
-    let c0 = m.c0;
-    let c1 = m.c1;
     fields::put1(image, MULTI_N, m.n);
-    fields::put_point(image, MULTI_C0, c0);
+    fields::put_point(image, MULTI_C0, m.c0);
     fields::put8(image, MULTI_T0, m.t0);
-    fields::put_point(image, MULTI_C1, c1);
+    fields::put_point(image, MULTI_C1, m.c1);
     fields::put8(image, MULTI_T1, m.t1);
 }
 
-fn put_pair(image: &mut [u8], r: Pair)
-    requires { length image.old ≡ at_end }
+fn put_pair(image: &mut Image, r: Pair)
     ensures { image.new ≡ puts image.old at_pair_a (pair_rows r) }
 {
-    let a = r.a;
-    let b = r.b;
-    let axis = r.axis;
-    let c0 = r.c0;
-    let number = panel::axis_number(axis);
-    fields::put_point(image, PAIR_A, a);
-    fields::put_point(image, PAIR_B, b);
-    fields::put1(image, PAIR_AXIS, number);
+    fields::put_point(image, PAIR_A, r.a);
+    fields::put_point(image, PAIR_B, r.b);
+    fields::put1(image, PAIR_AXIS, u8::from(r.axis));
     fields::put2(image, SPAN0, r.span0);
-    fields::put_point(image, PAIR_C0, c0);
+    fields::put_point(image, PAIR_C0, r.c0);
     fields::put1(image, PAIR_STATE, r.state);
 }
 
-fn put_pairing(image: &mut [u8], pair: Pairing)
-    requires { (length image.old ≡ at_end) × (puts image.old at_pairs (pairing_rows Unpaired) ≡ image.old) }
+fn put_pairing(image: &mut Image, pair: Option<Pair>)
+    requires { puts image.old at_pairs (pairing_rows None) ≡ image.old }
     ensures { image.new ≡ puts image.old at_pairs (pairing_rows pair) }
 {
     match pair {
-        Pairing::Unpaired => {}
-        Pairing::Paired(r) => {
+        None => {}
+        Some(r) => {
             fields::put1(image, PAIRS, PRESENT);
             put_pair(image, r);
         }
     }
 }
 
-pub(crate) fn put_touch(image: &mut [u8], touch: Touch)
-    requires { (length image.old ≡ at_end) × (image.old ≡ replicate at_end 0) }
+pub(crate) fn put_touch(image: &mut Image, touch: Touch)
+    requires { image.old ≡ replicate at_end 0 }
     ensures { image.new ≡ puts image.old at_touch (touch_rows touch) }
 {
     match touch {
@@ -129,14 +152,15 @@ pub(crate) fn put_touch(image: &mut [u8], touch: Touch)
     }
 }
 
+// No TryFrom: the byte may be any number, is_image looks at it (pairing_checked), and an error of this would never be
+// looked at.
 fn axis_from(n: u8) -> Axis
     ensures { result ≡ axis_from n }
 {
     if n == 0 { Axis::H } else { Axis::V }
 }
 
-fn multi_at(image: &[u8]) -> Multi
-    requires { length image.now ≡ at_end }
+fn multi_at(image: &Image) -> Multi
     ensures { result ≡ multi_at image.now }
 {
     Multi {
@@ -148,8 +172,7 @@ fn multi_at(image: &[u8]) -> Multi
     }
 }
 
-fn pair_at(image: &[u8]) -> Pair
-    requires { length image.now ≡ at_end }
+fn pair_at(image: &Image) -> Pair
     ensures { result ≡ pair_at image.now }
 {
     Pair {
@@ -162,20 +185,17 @@ fn pair_at(image: &[u8]) -> Pair
     }
 }
 
-fn pairing_at(image: &[u8]) -> Pairing
-    requires { length image.now ≡ at_end }
+fn pairing_at(image: &Image) -> Option<Pair>
     ensures { result ≡ pairing_from (number_at image.now at_pairs 1) (pair_at image.now) }
 {
     let n = fields::get1(image, PAIRS);
     if n == 0 {
-        return Pairing::Unpaired;
+        return None;
     }
-    let r = pair_at(image);
-    Pairing::Paired(r)
+    Some(pair_at(image))
 }
 
-pub(crate) fn touch_at(image: &[u8]) -> Touch
-    requires { length image.now ≡ at_end }
+pub(crate) fn touch_at(image: &Image) -> Touch
     ensures { result ≡ touch_at image.now }
 {
     let n = fields::get1(image, TOUCH);
@@ -183,20 +203,15 @@ pub(crate) fn touch_at(image: &[u8]) -> Touch
         return Touch::Idle;
     }
     if n == DOWN {
-        let start = fields::get_point(image, START);
-        let since = fields::get8(image, SINCE);
-        return Touch::Down(start, since);
+        return Touch::Down(fields::get_point(image, START), fields::get8(image, SINCE));
     }
     if n == MULTI {
-        let m = multi_at(image);
-        let pair = pairing_at(image);
-        return Touch::Multi(m, pair);
+        return Touch::Multi(multi_at(image), pairing_at(image));
     }
     Touch::Residual
 }
 
-fn no_down(image: &[u8]) -> bool
-    requires { length image.now ≡ at_end }
+fn no_down(image: &Image) -> bool
     ensures { result ≡ no_down image.now }
 {
     if fields::get4(image, START) == 0 {
@@ -206,14 +221,13 @@ fn no_down(image: &[u8]) -> bool
 }
 
 // Not even the mark that there is a pair.
-fn no_multi(image: &[u8]) -> bool
-    requires { length image.now ≡ at_end }
+fn no_multi(image: &Image) -> bool
     ensures { result ≡ no_multi image.now }
 {
-    if fields::is_zero8(image, MULTI_N) {
-        if fields::is_zero8(image, MULTI_N + 8) {
-            if fields::is_zero8(image, MULTI_N + 16) {
-                return fields::get2(image, MULTI_N + 24) == 0;
+    if fields::is_zero8(image, MULTI_FIRST) {
+        if fields::is_zero8(image, MULTI_SECOND) {
+            if fields::is_zero8(image, MULTI_THIRD) {
+                return fields::get2(image, MULTI_LAST) == 0;
             }
             return false;
         }
@@ -222,18 +236,16 @@ fn no_multi(image: &[u8]) -> bool
     false
 }
 
-fn no_pair(image: &[u8]) -> bool
-    requires { length image.now ≡ at_end }
+fn no_pair(image: &Image) -> bool
     ensures { result ≡ no_pair image.now }
 {
-    if fields::is_zero8(image, PAIR_A) {
-        return fields::is_zero8(image, PAIR_AXIS);
+    if fields::is_zero8(image, PAIR_FIRST) {
+        return fields::is_zero8(image, PAIR_SECOND);
     }
     false
 }
 
-fn pairing_checked(image: &[u8]) -> bool
-    requires { length image.now ≡ at_end }
+fn pairing_checked(image: &Image) -> bool
     ensures { result ≡ pairing_checked image.now }
 {
     let n = fields::get1(image, PAIRS);
@@ -247,8 +259,7 @@ fn pairing_checked(image: &[u8]) -> bool
 }
 
 // No touch of several fingers.
-fn single_checked(image: &[u8], n: u8) -> bool
-    requires { length image.now ≡ at_end }
+fn single_checked(image: &Image, n: u8) -> bool
     ensures { result ≡ single_checked image.now n }
 {
     if no_multi(image) {
@@ -263,8 +274,7 @@ fn single_checked(image: &[u8], n: u8) -> bool
     false
 }
 
-pub(crate) fn touch_checked(image: &[u8]) -> bool
-    requires { length image.now ≡ at_end }
+pub(crate) fn touch_checked(image: &Image) -> bool
     ensures { result ≡ touch_checked image.now }
 {
     let n = fields::get1(image, TOUCH);

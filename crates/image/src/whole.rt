@@ -1,44 +1,34 @@
 // The parts of an image together.
-ghost use Rattle.std.specs.Prelude.{◌≡◌, length, replicate};
+ghost use Rattle.std.specs.Prelude.{◌≡◌, replicate};
 ghost use Rattle.image.specs.Image.{image_of};
 ghost use Rattle.image.specs.code.Settings.{at_end};
 ghost use Rattle.image.specs.code.Whole.{tracker_at, rest_checked, image_checked};
 
-use crate::settings::IMAGE_BYTES;
+use crate::settings::{IMAGE_BYTES, Image};
 use crate::{ended, finger, keys, settings, touches};
 use gesture::Tracker;
 
 // All zero, as a fresh tracker's image is.
-pub(crate) fn blank(image: &mut [u8])
-    requires { length image.old ≡ at_end }
+pub(crate) fn blank(image: &mut Image)
     ensures { image.new ≡ replicate at_end 0 }
 {
-    let zeros = [0u8; IMAGE_BYTES];
-    image.copy_from_slice(&zeros);
+    *image = [0; IMAGE_BYTES];
 }
 
 // Straight into the area: an image on the way would be kept in registers, which it is too large for.
-pub(crate) fn put_tracker(image: &mut [u8], t: Tracker)
-    requires { length image.old ≡ at_end }
+pub(crate) fn put_tracker(image: &mut Image, t: Tracker)
     ensures { image.new ≡ image_of t }
 {
-    let touch = t.touch;
-    let one = t.one;
-    let app = t.app;
-    let end = t.multi_end;
-    let keys = t.keys;
-    let settings = t.settings;
     blank(image);
-    touches::put_touch(image, touch);
-    finger::put_finger(image, one, app);
-    ended::put_end(image, end);
-    keys::put_keys(image, keys);
-    settings::put_settings(image, settings);
+    touches::put_touch(image, t.touch);
+    finger::put_finger(image, t.one, t.app);
+    ended::put_end(image, t.multi_end);
+    keys::put_keys(image, t.keys);
+    settings::put_settings(image, t.settings);
 }
 
-// The tracker of any image-sized area. Of an area that is no image it makes some tracker, whose own image differs.
-pub(crate) fn tracker_at(image: &[u8]) -> Tracker
-    requires { length image.now ≡ at_end }
+// The tracker of any area of the image's length. Of an area that is no image it makes some tracker, whose own image differs.
+pub(crate) fn tracker_at(image: &Image) -> Tracker
     ensures { result ≡ tracker_at image.now }
 {
     Tracker {
@@ -51,8 +41,7 @@ pub(crate) fn tracker_at(image: &[u8]) -> Tracker
     }
 }
 
-fn rest_checked(image: &[u8]) -> bool
-    requires { length image.now ≡ at_end }
+fn rest_checked(image: &Image) -> bool
     ensures { result ≡ rest_checked image.now }
 {
     if finger::one_checked(image) {
@@ -68,10 +57,10 @@ fn rest_checked(image: &[u8]) -> bool
 }
 
 // Whether an area of the image's length is an image: a number that has few values has one of them, and a part that is
-// absent is zero. Every other number stands for itself. Here and in the parts tests are joined by ifs inside one another:
-// of these the compiler makes flags, of `&` jumps.
-pub(crate) fn is_image(image: &[u8]) -> bool
-    requires { length image.now ≡ at_end }
+// absent is zero. Every other number stands for itself. Here and in the parts tests are joined by ifs inside one
+// another: of these the compiler makes flags, of `&` jumps. It was `&` alone that they were held against; with `&&`,
+// which means what they do, it was not tried.
+pub(crate) fn is_image(image: &Image) -> bool
     ensures { result ≡ image_checked image.now }
 {
     if touches::touch_checked(image) {

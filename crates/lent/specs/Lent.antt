@@ -2,20 +2,16 @@
 --
 -- A call on a lent tracker tells what the by-value call of the crate gesture answers, but for the tracker: that is left
 -- where the lent one stood. "A refusal carries no other value (zeros, no gesture, no log line) and alters nothing."
-use Rattle.std.specs.Prelude.{◌≡◌}
+use Rattle.std.specs.Prelude.{◌≡◌, Result}
+use Rattle.panel.specs.declared.refusals.Refusal.{Refusal}
 use Rattle.gesture.specs.declared.record.Tracker.{Tracker}
 use Rattle.gesture.specs.declared.answers.Answer.{Answer}
-use Rattle.gesture.specs.declared.answers.GrabAnswer.{GrabAnswer}
-use Rattle.lent.specs.declared.responses.Response.{Response}
-use Rattle.lent.specs.declared.responses.GrabResponse.{GrabResponse}
+use Rattle.gesture.specs.declared.answers.Response.{Response}
 
 -- an answer without its tracker
-unfoldable pub response_of : Answer → Response
-response_of a = record { refusal = a.refusal; gesture = a.gesture; log = a.log }
-
-unfoldable pub grab_response_of : GrabAnswer → GrabResponse
-grab_response_of g = record { ms = g.ms; told = response_of g.answer }
+abbrev pub response_of : Answer → Result Response Refusal
+response_of a = a.told
 
 -- what every contract of this crate says of an answer by value: the one is told, the other left
-abbrev pub TellsAndLeaves : Answer → Response → Tracker → Type 0
+abbrev pub TellsAndLeaves : Answer → Result Response Refusal → Tracker → Type 0
 TellsAndLeaves a told left = (told ≡ response_of a) × (left ≡ a.tracker)

@@ -3,7 +3,6 @@
 #![tactic(auto)]
 
 mod calls;
-mod responses;
 
 pub use calls::{capture, capture_direct, event, grab_ms, raw_next, set_grab_ms, tick};
-pub use responses::{GrabResponse, Response};
+pub use gesture::Response;

@@ -10,10 +10,9 @@ use lib.ListN.{length, drop, length-append}
 use lib.Seq.{drop-drop, drop-append_seam}
 use borrow.Author.Tests.{lt-ltb, le-ltb}
 use Rattle.panel.proofs.Follow.{if-true, if-false}
-use Rattle.numbers.specs.Numbers.{whole, after, groups_by, bytes_of, bytes_of_all, groups_in, value_of, needless, read, number_at, number_from}
+use Rattle.numbers.specs.Numbers.{whole, after, groups_by, bytes_of, bytes_of_all, groups_in, value_of, needless, read, number_at}
 use Rattle.numbers.specs.Sizes.{group, most64}
-use Rattle.numbers.specs.declared.reading.Cursor.TheVariants.{At}
-use Rattle.numbers.proofs.Bytes.{by-lt, groups-one, groups-step, groups-some}
+use Rattle.numbers.proofs.Bytes.{by-lt, groups-one, groups-step, bytes-some}
 use Rattle.numbers.proofs.Grouping.{longer, other-ends, one-group, value-more, value-one}
 
 -- what is read of groups that were written: as many of them, their value, and no needless one
@@ -80,11 +79,11 @@ holds_on s at xs rest h =
 
 -- a number in its field's range is read back
 pub number-back : (s : List ℕ) (at most v : ℕ) (rest : List ℕ) → v ≤ most → most ≤ most64 → Holds s at (bytes_of v ++ rest) →
-    (to : ℕ) × (number_from s (At at) most ≡ read v to) × Holds s to rest
-unfolding number_from number_at bytes_of
+    (to : ℕ) × (number_at s at most ≡ read v to) × Holds s to rest
+unfolding number_at bytes_of
 number-back s at most v rest hv hm h =
     let b = groups-back 9 v rest (omega arith) in
-    let some : 0 < length (groups_by 10 v) = groups-some 10 v (λ z. omega arith) in
+    let some : 0 < length (bytes_of v) = bytes-some v in
     let here : min at (length s) ≡ at = omega (arith, h.fill, length-append (groups_by 10 v) rest) in
     let g : groups_in 10 (drop at s) ≡ whole (b.first ∷ b.others) = ap (groups_in 10) h.front ∙ b.groups in
     let within : value_of (b.first ∷ b.others) ≤ most = omega (arith, b.value) in (
@@ -97,10 +96,9 @@ number-back s at most v rest hv hm h =
     )
 
 all_cons : (v : ℕ) (vs rest : List ℕ) → bytes_of_all (v ∷ vs) ++ rest ≡ bytes_of v ++ (bytes_of_all vs ++ rest)
-unfolding bytes_of_all
 all_cons v vs rest = append_assoc (bytes_of v) (bytes_of_all vs) rest
 
 -- the first of several numbers
 pub number-next : (s : List ℕ) (at most v : ℕ) (vs rest : List ℕ) → v ≤ most → most ≤ most64 → Holds s at (bytes_of_all (v ∷ vs) ++ rest) →
-    (to : ℕ) × (number_from s (At at) most ≡ read v to) × Holds s to (bytes_of_all vs ++ rest)
+    (to : ℕ) × (number_at s at most ≡ read v to) × Holds s to (bytes_of_all vs ++ rest)
 number-next s at most v vs rest hv hm h = number-back s at most v (bytes_of_all vs ++ rest) hv hm (subst (Holds s at) (all_cons v vs rest) h)

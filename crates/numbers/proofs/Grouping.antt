@@ -1,4 +1,5 @@
 -- Groups as the code reads them end where specs/Numbers.antt says. Assumes nothing.
+use Rattle.std.specs.Prelude.{Result, Ok, Err, IfOk}
 use Prim.Native.Nat.{ℕ, zero, suc, ◌+◌, ◌-◌, ◌*◌, ◌≤◌, ◌<◌, min}
 use mathlib.Core.Path.{◌≡◌, refl, sym, ap, ◌∙◌}
 use mathlib.Core.Bool.{Bool, true, false, true≢false}
@@ -11,33 +12,31 @@ use lib.Seq.{drop-cons}
 use borrow.Author.Tests.{eqb-true, eqb-false, ltb-false, leb-true, leb-false, lt-ltb, le-ltb, eq-eqb, ne_eqb}
 use Rattle.panel.proofs.Follow.{follow, and-true, and-false, if-know, if-two}
 use Rattle.panel.specs.declared.refusals.Refusal.TheVariants.{Cut}
-use Rattle.numbers.specs.code.Groups.{rest_end, with_group, groups_at, judged_as}
-use Rattle.numbers.specs.Numbers.{Groups, whole, endless, early, after, groups_in, value_of, ends_in_zero, needless, judged, stopped, number_at, number_from}
+use Rattle.numbers.specs.code.Groups.{rest_end, with_group, after_group, groups_at, within, judged_as}
+use Rattle.numbers.specs.Numbers.{◌>>=◌, Groups, whole, endless, early, after, groups_in, value_of, ends_in_zero, needless, judged, stopped, number_at}
 use Rattle.numbers.specs.Sizes.{group, most64, most_groups}
-use Rattle.numbers.specs.declared.reading.Cursor.{Cursor}
-use Rattle.numbers.specs.declared.reading.Cursor.TheVariants.{At, Stop}
-use Rattle.numbers.specs.declared.reading.Grouped.{Grouped}
-use Rattle.numbers.specs.declared.reading.Grouped.TheVariants.{Whole, Early, Needless, Large}
-use Rattle.numbers.specs.declared.reading.Value.{Value}
+use Rattle.numbers.specs.declared.reading.Fault.{Fault}
+use Rattle.numbers.specs.declared.reading.Fault.TheVariants.{Early, Needless, Large}
+use Rattle.numbers.specs.declared.reading.Stop.{Stop}
 
 -- Each way that the code's reading goes.
 
-pub none_left : (bytes : List ℕ) (at left : ℕ) → left ≡ 0 → groups_at left bytes at ≡ Large
+pub none_left : (bytes : List ℕ) (at left : ℕ) → left ≡ 0 → groups_at left bytes at ≡ Err Large
 unfolding groups_at
 none_left bytes at zero e = refl
 none_left bytes at (suc left) e = absurd (omega arith)
 
-pub bytes-end : (s : List ℕ) (at left : ℕ) → (left ≡ 0 → ⊥) → length s ≤ at → groups_at left (drop at s) at ≡ Early
+pub bytes-end : (s : List ℕ) (at left : ℕ) → (left ≡ 0 → ⊥) → length s ≤ at → groups_at left (drop at s) at ≡ Err Early
 unfolding groups_at
 bytes-end s at zero some h = absurd (some refl)
 bytes-end s at (suc left) some h = rw (drop_of_length-le s {i = at} h)
 
-pub last-group : (s : List ℕ) (at left : ℕ) → (left ≡ 0 → ⊥) → at < length s → get_or s at 0 < group → groups_at left (drop at s) at ≡ Whole (get_or s at 0) (at + 1)
+pub last-group : (s : List ℕ) (at left : ℕ) → (left ≡ 0 → ⊥) → at < length s → get_or s at 0 < group → groups_at left (drop at s) at ≡ Ok (get_or s at 0, at + 1)
 unfolding groups_at
 last-group s at zero some h l = absurd (some refl)
 last-group s at (suc left) some h l = rw (drop-cons s at 0 h) (search follow)
 
-pub more-groups : (s : List ℕ) (at left : ℕ) → (left ≡ 0 → ⊥) → at < length s → group ≤ get_or s at 0 → groups_at left (drop at s) at ≡ with_group (get_or s at 0) (groups_at (left - 1) (drop (at + 1) s) (at + 1))
+pub more-groups : (s : List ℕ) (at left : ℕ) → (left ≡ 0 → ⊥) → at < length s → group ≤ get_or s at 0 → groups_at left (drop at s) at ≡ after_group (get_or s at 0) (groups_at (left - 1) (drop (at + 1) s) (at + 1))
 unfolding groups_at
 more-groups s at zero some h l = absurd (some refl)
 more-groups s at (suc left) some h l =
@@ -73,22 +72,22 @@ other-ends h [] e z = ne_eqb h 0 (λ k. z (omega arith))
 other-ends h (g ∷ gs) e z = sym (longer h g gs) ∙ e
 
 -- What the code has read of a number that begins at a place says the same as the number's groups.
-abbrev Same : ℕ → Grouped → Groups → Type 0
-Same at (Whole v next) (whole []) = ⊥
-Same at (Whole v next) (whole (g ∷ gs)) = (needless (g ∷ gs) ≡ false) × (v ≡ value_of (g ∷ gs)) × (next ≡ at + length (g ∷ gs))
-Same at (Whole v next) endless = ⊥
-Same at (Whole v next) early = ⊥
-Same at Early (whole gs) = ⊥
-Same at Early endless = ⊥
-Same at Early early = Unit
-Same at Needless (whole []) = ⊥
-Same at Needless (whole (g ∷ gs)) = needless (g ∷ gs) ≡ true
-Same at Needless endless = ⊥
-Same at Needless early = ⊥
-Same at Large (whole []) = ⊥
-Same at Large (whole (g ∷ gs)) = (needless (g ∷ gs) ≡ false) × (most64 < value_of (g ∷ gs))
-Same at Large endless = Unit
-Same at Large early = ⊥
+abbrev Same : ℕ → Result (ℕ × ℕ) Fault → Groups → Type 0
+Same at (Ok r) (whole []) = ⊥
+Same at (Ok r) (whole (g ∷ gs)) = (needless (g ∷ gs) ≡ false) × (r.0 ≡ value_of (g ∷ gs)) × (r.1 ≡ at + length (g ∷ gs))
+Same at (Ok r) endless = ⊥
+Same at (Ok r) early = ⊥
+Same at (Err Early) (whole gs) = ⊥
+Same at (Err Early) endless = ⊥
+Same at (Err Early) early = Unit
+Same at (Err Needless) (whole []) = ⊥
+Same at (Err Needless) (whole (g ∷ gs)) = needless (g ∷ gs) ≡ true
+Same at (Err Needless) endless = ⊥
+Same at (Err Needless) early = ⊥
+Same at (Err Large) (whole []) = ⊥
+Same at (Err Large) (whole (g ∷ gs)) = (needless (g ∷ gs) ≡ false) × (most64 < value_of (g ∷ gs))
+Same at (Err Large) endless = Unit
+Same at (Err Large) early = ⊥
 
 -- a number of two groups or more that ends in 0, and one that does not
 ends-in-zero : (h : ℕ) (gs : List ℕ) → needless (h ∷ gs) ≡ true → ends_in_zero (h ∷ gs) ≡ true
@@ -100,12 +99,12 @@ not-early : (h : ℕ) (gs : List ℕ) → needless (h ∷ gs) ≡ false → most
 not-early h gs e l = other-ends h gs e (λ z. absurd (omega arith))
 
 -- one group in front
-whole-more : (b at v next g : ℕ) (gs : List ℕ) → Same (at + 1) (Whole v next) (whole (g ∷ gs)) → Same at (with_group b (Whole v next)) (whole ((b - group) ∷ g ∷ gs))
+whole-more : (b at v next g : ℕ) (gs : List ℕ) → Same (at + 1) (Ok (v, next)) (whole (g ∷ gs)) → Same at (after_group b (Ok (v, next))) (whole ((b - group) ∷ g ∷ gs))
 unfolding with_group
 whole-more b at v next g gs s =
-    if-know (λ r. Same at r (whole ((b - group) ∷ g ∷ gs))) _ _ _
+    if-know (λ r. Same at (r >>= λ n. Ok (n, next)) (whole ((b - group) ∷ g ∷ gs))) _ _ _
     (λ z. longer (b - group) g gs ∙ zero-ends g gs s.0 (sym s.1 ∙ eqb-true v 0 z))
-    (λ z. if-know (λ r. Same at r (whole ((b - group) ∷ g ∷ gs))) _ _ _ (λ l. (shortest z, ap (λ (k : ℕ). b - group + group * k) s.1 ∙ sym value, omega (arith, s.2))) (λ l. (shortest z, omega (arith, value, s.1, ltb-false v rest_end l))))
+    (λ z. if-know (λ r. Same at (r >>= λ n. Ok (n, next)) (whole ((b - group) ∷ g ∷ gs))) _ _ _ (λ l. (shortest z, ap (λ (k : ℕ). b - group + group * k) s.1 ∙ sym value, omega (arith, s.2))) (λ l. (shortest z, omega (arith, value, s.1, ltb-false v rest_end l))))
   where
     value : value_of ((b - group) ∷ g ∷ gs) ≡ b - group + group * value_of (g ∷ gs)
     value = value-more (b - group) (g ∷ gs)
@@ -113,23 +112,22 @@ whole-more b at v next g gs s =
     shortest : eqb v 0 ≡ false → needless ((b - group) ∷ g ∷ gs) ≡ false
     shortest z = longer (b - group) g gs ∙ other-ends g gs s.0 (λ k. eqb-false v 0 z (s.1 ∙ k))
 
-pub more : (b at : ℕ) (r : Grouped) (gs : Groups) → Same (at + 1) r gs → Same at (with_group b r) (after (b - group) gs)
-unfolding with_group
-more b at (Whole v next) (whole (g ∷ gs)) s = whole-more b at v next g gs s
-more b at (Whole v next) (whole []) s = absurd s
-more b at (Whole v next) endless s = absurd s
-more b at (Whole v next) early s = absurd s
-more b at Early (whole gs) s = absurd s
-more b at Early endless s = absurd s
-more b at Early early s = tt
-more b at Needless (whole []) s = absurd s
-more b at Needless (whole (g ∷ gs)) s = longer (b - group) g gs ∙ ends-in-zero g gs s
-more b at Needless endless s = absurd s
-more b at Needless early s = absurd s
-more b at Large (whole []) s = absurd s
-more b at Large (whole (g ∷ gs)) s = (longer (b - group) g gs ∙ not-early g gs s.0 s.1, omega (arith, value-more (b - group) (g ∷ gs), s.1))
-more b at Large endless s = tt
-more b at Large early s = absurd s
+pub more : (b at : ℕ) (r : Result (ℕ × ℕ) Fault) (gs : Groups) → Same (at + 1) r gs → Same at (after_group b r) (after (b - group) gs)
+more b at (Ok r) (whole (g ∷ gs)) s = whole-more b at r.0 r.1 g gs s
+more b at (Ok r) (whole []) s = absurd s
+more b at (Ok r) endless s = absurd s
+more b at (Ok r) early s = absurd s
+more b at (Err Early) (whole gs) s = absurd s
+more b at (Err Early) endless s = absurd s
+more b at (Err Early) early s = tt
+more b at (Err Needless) (whole []) s = absurd s
+more b at (Err Needless) (whole (g ∷ gs)) s = longer (b - group) g gs ∙ ends-in-zero g gs s
+more b at (Err Needless) endless s = absurd s
+more b at (Err Needless) early s = absurd s
+more b at (Err Large) (whole []) s = absurd s
+more b at (Err Large) (whole (g ∷ gs)) s = (longer (b - group) g gs ∙ not-early g gs s.0 s.1, omega (arith, value-more (b - group) (g ∷ gs), s.1))
+more b at (Err Large) endless s = tt
+more b at (Err Large) early s = absurd s
 
 -- a group alone
 pub one-group : (b : ℕ) → needless (b ∷ []) ≡ false
@@ -148,32 +146,31 @@ same (suc left) [] at = tt
 same (suc left) (b ∷ bytes) at =
     if-two (Same at) _ _ _ _ _ (λ l. (one-group b, value-one b, refl)) (λ l. more b at _ _ (same left bytes (at + 1)))
 
-number-judged : (at most v next g : ℕ) (gs : List ℕ) (b : Bool) → leb v most ≡ b → Same at (Whole v next) (whole (g ∷ gs)) → judged_as at most (Whole v next) ≡ judged at most (whole (g ∷ gs))
-unfolding judged_as
-number-judged at most v next g gs true e s =
-    let l : value_of (g ∷ gs) ≤ most = omega (arith, leb-true v most e, s.1) in
+number-judged : (at most : ℕ) (r : ℕ × ℕ) (g : ℕ) (gs : List ℕ) (b : Bool) → leb r.0 most ≡ b → Same at (Ok r) (whole (g ∷ gs)) → within at most r ≡ judged at most (whole (g ∷ gs))
+unfolding within
+number-judged at most r g gs true e s =
+    let l : value_of (g ∷ gs) ≤ most = omega (arith, leb-true r.0 most e, s.1) in
     search (follow, s.0, s.1, s.2, e)
-number-judged at most v next g gs false e s =
-    let l : most < value_of (g ∷ gs) = omega (arith, leb-false v most e, s.1) in
-    search (follow, s.0, e)
+number-judged at most r g gs false e s =
+    let l : most < value_of (g ∷ gs) = omega (arith, leb-false r.0 most e, s.1) in
+    search (follow, s.0)
 
-same-judged : (at most : ℕ) (r : Grouped) (gs : Groups) → most ≤ most64 → Same at r gs → judged_as at most r ≡ judged at most gs
-unfolding judged_as
-same-judged at most (Whole v next) (whole (g ∷ gs)) m s = number-judged at most v next g gs (leb v most) refl s
-same-judged at most (Whole v next) (whole []) m s = absurd s
-same-judged at most (Whole v next) endless m s = absurd s
-same-judged at most (Whole v next) early m s = absurd s
-same-judged at most Early (whole gs) m s = absurd s
-same-judged at most Early endless m s = absurd s
-same-judged at most Early early m s = refl
-same-judged at most Needless (whole []) m s = absurd s
-same-judged at most Needless (whole (g ∷ gs)) m s = search (follow, s)
-same-judged at most Needless endless m s = absurd s
-same-judged at most Needless early m s = absurd s
-same-judged at most Large (whole []) m s = absurd s
-same-judged at most Large (whole (g ∷ gs)) m s = let l : most < value_of (g ∷ gs) = omega (arith, s.1) in search (follow, s.0)
-same-judged at most Large endless m s = refl
-same-judged at most Large early m s = absurd s
+same-judged : (at most : ℕ) (r : Result (ℕ × ℕ) Fault) (gs : Groups) → most ≤ most64 → Same at r gs → judged_as at most r ≡ judged at most gs
+same-judged at most (Ok r) (whole (g ∷ gs)) m s = number-judged at most r g gs (leb r.0 most) refl s
+same-judged at most (Ok r) (whole []) m s = absurd s
+same-judged at most (Ok r) endless m s = absurd s
+same-judged at most (Ok r) early m s = absurd s
+same-judged at most (Err Early) (whole gs) m s = absurd s
+same-judged at most (Err Early) endless m s = absurd s
+same-judged at most (Err Early) early m s = refl
+same-judged at most (Err Needless) (whole []) m s = absurd s
+same-judged at most (Err Needless) (whole (g ∷ gs)) m s = search (follow, s)
+same-judged at most (Err Needless) endless m s = absurd s
+same-judged at most (Err Needless) early m s = absurd s
+same-judged at most (Err Large) (whole []) m s = absurd s
+same-judged at most (Err Large) (whole (g ∷ gs)) m s = let l : most < value_of (g ∷ gs) = omega (arith, s.1) in search (follow, s.0)
+same-judged at most (Err Large) endless m s = refl
+same-judged at most (Err Large) early m s = absurd s
 
 -- a number that begins where there are bytes
 pub number-here : (s : List ℕ) (at most : ℕ) → at < length s → most ≤ most64 → judged_as at most (groups_at most_groups (drop at s) at) ≡ number_at s at most
@@ -188,15 +185,17 @@ number-missing s at most h =
     let e : min at (length s) ≡ length s = omega arith in
     rw (e, drop_of_length-le s {i = at} h)
 
--- a number that was read is within its field's maximum, and 0 where none was read
-judged-most : (at most : ℕ) (gs : Groups) → (judged at most gs).v ≤ most
-judged-most at most endless = omega arith
-judged-most at most early = omega arith
+-- a number that was read is within its field's maximum
+judged-most : (at most : ℕ) (gs : Groups) → IfOk (judged at most gs) (λ r. r.0 ≤ most)
+judged-most at most endless = tt
+judged-most at most early = tt
 judged-most at most (whole gs) =
-    if-know (λ (r : Value). r.v ≤ most) _ _ _ (λ e. omega arith)
-    (λ e. if-know (λ (r : Value). r.v ≤ most) _ _ _ (λ l. omega arith) (λ l. ltb-false most (value_of gs) l))
+    if-know (λ r. IfOk r (λ x. x.0 ≤ most)) _ _ _ (λ e. tt)
+    (λ e. if-know (λ r. IfOk r (λ x. x.0 ≤ most)) _ _ _ (λ l. tt) (λ l. ltb-false most (value_of gs) l))
 
-pub number-most : (s : List ℕ) (c : Cursor) (most : ℕ) → (number_from s c most).v ≤ most
-unfolding number_from number_at
-number-most s (At at) most = judged-most (min at (length s)) most (groups_in most_groups (drop at s))
-number-most s (Stop why at) most = omega arith
+pub number-most : (s : List ℕ) (at most : ℕ) (r : Result (ℕ × ℕ) Stop) → r ≡ number_at s at most → IfOk r (λ x. x.0 ≤ most)
+unfolding number_at
+number-most s at most r e = rw e (judged-most (min at (length s)) most (groups_in most_groups (drop at s)))
+
+-- each way that the code's reading goes
+pub ruleset steps = (none_left, bytes-end, last-group, more-groups)

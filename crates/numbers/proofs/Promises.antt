@@ -1,5 +1,6 @@
 -- Reading and writing a number in the documents' numbers: where reading stops and why, that a writer alters nothing where it
 -- refuses and no other byte where it writes, and that a contract leaves no second answer. Assumes nothing.
+use Rattle.std.specs.Prelude.{Result}
 use Prim.Native.Nat.{ℕ, ◌+◌}
 use mathlib.Core.Path.{◌≡◌, refl, ap, ◌∙◌}
 use mathlib.Core.Bool.{true, false}
@@ -9,11 +10,10 @@ use Rattle.panel.proofs.Follow.{if-of, if-true}
 use Rattle.panel.proofs.Promises.{one_answer}
 use Rattle.panel.specs.Refusals.{Told}
 use Rattle.panel.specs.Tests.{when◌then◌else◌, ◌≤?◌, ◌<?◌}
-use Rattle.numbers.specs.Numbers.{whole, endless, early, bytes_of, value_of, needless, judged, number_from, told_to}
+use Rattle.numbers.specs.Numbers.{whole, endless, early, bytes_of, value_of, needless, judged, number_at, told_to}
 use Rattle.numbers.specs.Writing.{wrote_of, written_of, told_write}
-use Rattle.numbers.specs.declared.reading.Cursor.{Cursor}
-use Rattle.numbers.specs.declared.reading.Value.{Value}
-use Rattle.numbers.specs.declared.writing.WriteAnswer.{WriteAnswer}
+use Rattle.numbers.specs.declared.reading.Stop.{Stop}
+use Rattle.panel.specs.declared.refusals.Refusal.{Refusal}
 
 abbrev tells : {A : Type 0} → ℕ → A → Told A
 tells n a = record { number = n; value = a }
@@ -45,8 +45,8 @@ module _ (room : List ℕ) (at : ℕ) (bytes : List ℕ) where
   no-other-byte h = if-true _ _ _ h
 
 -- Each contract determines the whole answer, and the bytes lent to the writer.
-pub number-unique : (bytes : List ℕ) (c : Cursor) (most : ℕ) {r s : Value} → r ≡ number_from bytes c most → s ≡ number_from bytes c most → r ≡ s
-number-unique bytes c most = one_answer
+pub number-unique : (bytes : List ℕ) (at most : ℕ) {r s : Result (ℕ × ℕ) Stop} → r ≡ number_at bytes at most → s ≡ number_at bytes at most → r ≡ s
+number-unique bytes at most = one_answer
 
 pub wide-unique : (x : ℕ) {r s : ℕ} → r ≡ x → s ≡ x → r ≡ s
 wide-unique x = one_answer
@@ -55,7 +55,7 @@ pub length-unique : (v : ℕ) {r s : ℕ} → r ≡ length (bytes_of v) → s �
 length-unique v = one_answer
 
 module _ (room : List ℕ) (at : ℕ) (bytes : List ℕ) where
-  pub write-unique : {r s : WriteAnswer} → r ≡ wrote_of room at bytes → s ≡ wrote_of room at bytes → r ≡ s
+  pub write-unique : {r s : Result ℕ Refusal} → r ≡ wrote_of room at bytes → s ≡ wrote_of room at bytes → r ≡ s
   write-unique = one_answer
 
   pub written-unique : {r s : List ℕ} → r ≡ written_of room at bytes → s ≡ written_of room at bytes → r ≡ s

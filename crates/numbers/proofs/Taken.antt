@@ -13,11 +13,8 @@ use Rattle.panel.proofs.Follow.{if-true, if-false}
 use Rattle.panel.specs.Tests.{◌and◌}
 use Rattle.panel.specs.declared.refusals.Refusal.{Refusal}
 use Rattle.panel.specs.declared.refusals.Refusal.TheVariants.{Cut, Form, Big}
-use Rattle.numbers.specs.Numbers.{Groups, whole, endless, early, after, groups_by, bytes_of, groups_in, value_of, needless, judged, read, stopped, number_at, number_from}
+use Rattle.numbers.specs.Numbers.{Groups, whole, endless, early, after, groups_by, bytes_of, groups_in, value_of, needless, judged, read, stopped, number_at}
 use Rattle.numbers.specs.Sizes.{group, most_groups}
-use Rattle.numbers.specs.declared.reading.Cursor.{Cursor}
-use Rattle.numbers.specs.declared.reading.Cursor.TheVariants.{At, Stop}
-use Rattle.numbers.specs.declared.reading.Value.{Value}
 use Rattle.numbers.proofs.Back.{last-in, more-in}
 use Rattle.numbers.proofs.Bytes.{by-lt, groups-one, groups-step}
 use Rattle.numbers.proofs.Grouping.{longer, not-zero, value-more, value-one}
@@ -132,10 +129,12 @@ raw-is (suc k) g (h ∷ gs) d e m =
 
 -- What is read as a number.
 not-read : (why : Refusal) (at v next : ℕ) → stopped why at ≡ read v next → ⊥
-not-read why at v next e =
-    let f : Stop why at ≡ At next = ap (λ (r : Value). r.to) e in
-    let z : ◌≡◌ {A = ℕ} 0 1 = cc in
-    omega arith
+not-read why at v next e = let z : ◌≡◌ {A = ℕ} 0 1 = cc in omega arith
+
+pub same-read : (v next w to : ℕ) → read v next ≡ read w to → (v ≡ w) × (next ≡ to)
+same-read v next w to e =
+    let p : (v, next) ≡ (w, to) = cc in
+    (ap (λ (r : ℕ × ℕ). r.0) p, ap (λ (r : ℕ × ℕ). r.1) p)
 
 judged-took : (at most : ℕ) (gs : Groups) (v next : ℕ) → judged at most gs ≡ read v next →
     (l : List ℕ) × (gs ≡ whole l) × (needless l ≡ false) × (v ≡ value_of l) × (next ≡ at + length l)
@@ -147,8 +146,8 @@ judged-took at most (whole l) v next e = by_form (needless l) refl
     by_size true q n = absurd (not-read Big at v next (sym (if-false _ _ _ n ∙ if-true _ _ _ q) ∙ e))
     by_size false q n =
         let f : read (value_of l) (at + length l) ≡ read v next = sym (if-false _ _ _ n ∙ if-false _ _ _ q) ∙ e in
-        let g : At (at + length l) ≡ At next = ap (λ (r : Value). r.to) f in
-        (l, refl, n, sym (ap (λ (r : Value). r.v) f), cc)
+        let p = same-read v next (value_of l) (at + length l) (sym f) in
+        (l, refl, n, p.0, p.1)
 
     by_form : (t : Bool) → needless l ≡ t → (m : List ℕ) × (whole l ≡ whole m) × (needless m ≡ false) × (v ≡ value_of m) × (next ≡ at + length m)
     by_form true n = absurd (not-read Form at v next (sym (if-true _ _ _ n) ∙ e))
@@ -172,9 +171,9 @@ spans-join s a b c xs ys p q =
     }
 
 -- a number that was read at a place within s is there as the writer writes it
-here : (s : List ℕ) (at most v next : ℕ) → Octets s → number_at s at most ≡ read v next → Spans s at next (bytes_of v)
+pub number-took : (s : List ℕ) (at most v next : ℕ) → Octets s → number_at s at most ≡ read v next → Spans s at next (bytes_of v)
 unfolding number_at bytes_of
-here s at most v next oc e =
+number-took s at most v next oc e =
     let j = judged-took (min at (length s)) most (groups_in most_groups (drop at s)) v next e in
     go j.0 j.1 j.2 j.3 j.4
   where
@@ -195,9 +194,3 @@ here s at most v next oc e =
               ∙ ap (λ (l : List ℕ). groups_by most_groups v ++ l) (drop-drop many at s ∙ ap (λ (k : ℕ). drop k s) (sym to));
           ends = omega (arith, raw-length g gs, ap length w);
         }
-
-pub number-took : (s : List ℕ) (c : Cursor) (most next : ℕ) → Octets s → (number_from s c most).to ≡ At next →
-    (at : ℕ) × (c ≡ At at) × Spans s at next (bytes_of (number_from s c most).v)
-unfolding number_from
-number-took s (At at) most next oc e = (at, refl, here s at most (number_at s at most).v next oc (λ i. record { v = (number_at s at most).v; to = e i }))
-number-took s (Stop why at) most next oc e = let z : ◌≡◌ {A = ℕ} 0 1 = cc in absurd (omega arith)

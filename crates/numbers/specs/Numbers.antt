@@ -3,15 +3,14 @@
 -- "Numbers: seven-bit groups, low first, high bit on all but the last, shortest form. Ten groups without a last: BIG; ended
 -- early: CUT; needless zero group: FORM; too large: BIG, in that order." "offset of the number's first byte or, if missing,
 -- the length".
-use Rattle.std.specs.Prelude.{ℕ, zero, suc, ◌+◌, ◌-◌, ◌*◌, ◌/◌, ◌%◌, min, Bool, List, [], ◌∷◌, ◌++◌, length, drop}
+use Rattle.std.specs.Prelude.{ℕ, zero, suc, ◌+◌, ◌-◌, ◌*◌, ◌/◌, ◌%◌, min, Bool, List, [], ◌∷◌, length, drop, Result, Ok, Err}
+use Rattle.std.specs.List.{flat_map}
 use Rattle.panel.specs.Refusals.{Told, answered, refused}
 use Rattle.panel.specs.Tests.{when◌then◌else◌, ◌and◌, ◌<?◌, ◌=?◌}
 use Rattle.panel.specs.declared.refusals.Refusal.{Refusal}
 use Rattle.panel.specs.declared.refusals.Refusal.TheVariants.{Cut, Form, Big}
 use Rattle.numbers.specs.Sizes.{group, most_groups}
-use Rattle.numbers.specs.declared.reading.Cursor.{Cursor}
-use Rattle.numbers.specs.declared.reading.Cursor.TheVariants.{At, Stop}
-use Rattle.numbers.specs.declared.reading.Value.{Value}
+use Rattle.numbers.specs.declared.reading.Stop.{Stop}
 
 -- Writing: the groups of v, at most so many.
 unfoldable pub groups_by : ℕ → ℕ → List ℕ
@@ -22,9 +21,8 @@ unfoldable pub bytes_of : ℕ → List ℕ
 bytes_of v = groups_by most_groups v
 
 -- numbers one after another
-unfoldable pub bytes_of_all : List ℕ → List ℕ
-bytes_of_all [] = []
-bytes_of_all (v ∷ vs) = bytes_of v ++ bytes_of_all vs
+abbrev pub bytes_of_all : List ℕ → List ℕ
+bytes_of_all vs = flat_map bytes_of vs
 
 -- Reading: the groups of the number that the bytes begin with, without their high bits.
 pub data Groups : Type 0 where
@@ -57,13 +55,13 @@ unfoldable pub needless : List ℕ → Bool
 needless gs = (1 <? length gs) and ends_in_zero gs
 
 -- A number that was read, and where the next one begins; or why there is none, and where it should have been.
-abbrev pub read : ℕ → ℕ → Value
-read v next = record { v = v; to = At next }
+abbrev pub read : ℕ → ℕ → Result (ℕ × ℕ) Stop
+read v next = Ok (v, next)
 
-abbrev pub stopped : Refusal → ℕ → Value
-stopped why at = record { v = 0; to = Stop why at }
+abbrev pub stopped : {A : Type 0} → Refusal → ℕ → Result A Stop
+stopped why at = Err (record { why = why; at = at })
 
-abbrev pub judged : ℕ → ℕ → Groups → Value
+abbrev pub judged : ℕ → ℕ → Groups → Result (ℕ × ℕ) Stop
 judged at most endless = stopped Big at
 judged at most early = stopped Cut at
 judged at most (whole gs) =
@@ -72,18 +70,20 @@ judged at most (whole gs) =
     else read (value_of gs) (at + length gs)
 
 -- the number at a place of the bytes, which its field holds to a maximum
-unfoldable pub number_at : List ℕ → ℕ → ℕ → Value
+unfoldable pub number_at : List ℕ → ℕ → ℕ → Result (ℕ × ℕ) Stop
 number_at bytes at most = judged (min at (length bytes)) most (groups_in most_groups (drop at bytes))
 
--- the same where reading goes on; where it has stopped, it stays so
-unfoldable pub number_from : List ℕ → Cursor → ℕ → Value
-number_from bytes (At at) most = number_at bytes at most
-number_from bytes (Stop why at) most = stopped why at
+-- Reading goes on with what was read; where it has stopped, it stays so.
+infixl 10 ◌>>=◌
+abbrev pub ◌>>=◌ : {A B E : Type 0} → Result A E → (A → Result B E) → Result B E
+(Ok x) >>= go_on = go_on x
+(Err stop) >>= go_on = Err stop
 
--- a cursor in the documents' numbers: 0 and where reading goes on, or the refusal's number and the place it speaks of
-abbrev pub told_cursor : Cursor → Told ℕ
-told_cursor (At next) = answered next
-told_cursor (Stop why at) = refused why at
+-- in the documents' numbers: 0 and where reading goes on, or the refusal's number and the place it speaks of
+abbrev pub told_place : Result ℕ Stop → Told ℕ
+told_place (Ok next) = answered next
+told_place (Err stop) = refused stop.why stop.at
 
-abbrev pub told_to : Value → Told ℕ
-told_to v = told_cursor v.to
+abbrev pub told_to : Result (ℕ × ℕ) Stop → Told ℕ
+told_to (Ok r) = answered r.1
+told_to (Err stop) = refused stop.why stop.at

@@ -6,6 +6,6 @@ mod reading;
 mod sizes;
 mod writing;
 
-pub use reading::{Cursor, Value, next_number};
+pub use reading::{Stop, next_number};
 pub use sizes::MOST_64;
-pub use writing::{WriteAnswer, length_of, put_number, put_numbers};
+pub use writing::{length_of, put_number, put_numbers};

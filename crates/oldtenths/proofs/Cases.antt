@@ -15,10 +15,10 @@ use Rattle.touchcal.specs.Floats.{in_reach, half_away, nearest_step, q16_of, in_
 use Rattle.touchcal.specs.Moments.{place_of, add_pair, shared_of, add_about, moments_of}
 use Rattle.touchcal.specs.Solutions.{det_of, spreads, coefs_of, deltas_of, stepped_of, solved_of}
 use Rattle.touchcal.specs.Fits.{fit_by}
-use Rattle.touchcal.specs.declared.fitting.FitAnswer.TheVariants.{Answered}
+use Rattle.std.specs.Prelude.{Ok}
 use Rattle.touchcal.proofs.Cases.{opposite, shifted, target}
 use Rattle.oldtenths.specs.OldTenths.{old_tenths_of}
 
-pub passed-before : fit_by old_tenths_of (opposite 50 5) target ≡ Answered (record { cal = shifted 1_638_400 163_840; mean = tenths 250; max = tenths 250; before = tenths 250; verdict = Pass })
+pub passed-before : fit_by old_tenths_of (opposite 50 5) target ≡ Ok (record { cal = shifted 1_638_400 163_840; mean = tenths 250; max = tenths 250; before = tenths 250; verdict = Pass })
 unfolding fit_by solved_of stepped_of moments_of place_of add_pair shared_of add_about det_of spreads coefs_of deltas_of steps_of in_steps q16_of in_reach nearest_step half_away resid_by misses_of miss_of largest apply_of line line_fits in32 in16 down digit root_by squared gap_of old_tenths_of root_of check_of verdict_of scale_holds mild near stays all_stay on_panel all_on_panel sum_of mean_of when◌then◌else◌ ◌and◌ ◌or◌ of_bits add sub mul div lt of_int to_signed
 passed-before = refl

@@ -1,5 +1,6 @@
 -- What `resid` tells by the old tenths and by those of request [6]: the mean and the largest are the same or one more, of
 -- any taps that have distances. Assumes nothing.
+use Rattle.std.specs.Prelude.{Option, Some, None, Result, Ok, Err}
 use Prim.Native.Nat.{ℕ, suc, ◌+◌, ◌/◌, ◌^◌, ◌≤◌, ◌<◌}
 use mathlib.Core.Path.{◌≡◌, refl, subst}
 use mathlib.Core.Bool.{Bool, true, false}
@@ -16,11 +17,6 @@ use Rattle.calmap.specs.Maps.{apply_of}
 use Rattle.calmap.specs.Resids.{far_off, miss_of, Misses, known, wide, besides, misses_of, sum_of, mean_of, largest, spread, spread_by, resid_by, resid_of}
 use Rattle.calmap.specs.Sizes.{longest}
 use Rattle.calmap.specs.Units.{in_sixteenths, ◌⊟◌, share_of}
-use Rattle.calmap.specs.declared.gaps.Gap.{Gap}
-use Rattle.calmap.specs.declared.gaps.Gap.TheVariants.{Squared, Wide}
-use Rattle.calmap.specs.declared.mapping.ApplyAnswer.{ApplyAnswer}
-use Rattle.calmap.specs.declared.mapping.ApplyAnswer.TheVariants as Apply
-use Rattle.calmap.specs.declared.residuals.ResidAnswer.TheVariants.{Answered, Refused}
 use Rattle.calmap.specs.declared.residuals.Spread.{Spread}
 use Rattle.calmap.specs.declared.units.Aim.{Aim}
 use Rattle.calmap.specs.declared.units.Cal.{Cal}
@@ -28,6 +24,7 @@ use Rattle.calmap.specs.declared.units.Tap.{Tap}
 use Rattle.calmap.specs.declared.units.Tenths.{Tenths}
 use Rattle.oldtenths.specs.OldTenths.{old_tenths_of}
 use Rattle.oldtenths.proofs.Laws.{old-at-most, one-more-at-most}
+use Rattle.calmap.specs.declared.mapping.Spot.{Spot}
 
 -- the same, or one more
 pub record OneMore (old new : Tenths) : Type 0 where
@@ -40,20 +37,20 @@ data Reached : List ℕ → Type 0 where
   none : Reached []
   more : {d2 : ℕ} {ds : List ℕ} → d2 < 2 ^ 64 → Reached ds → Reached (d2 ∷ ds)
 
-gap-reached : (b : Bool) (n d2 : ℕ) → (b ≡ true → n ≤ 2 ^ 63) → when◌then◌else◌ b (Squared n) Wide ≡ Squared d2 → d2 < 2 ^ 64
+gap-reached : (b : Bool) (n d2 : ℕ) → (b ≡ true → n ≤ 2 ^ 63) → when◌then◌else◌ b (Some n) None ≡ Some d2 → d2 < 2 ^ 64
 unfolding when◌then◌else◌
 gap-reached true n d2 f e = let q : n ≡ d2 = cc in subst (λ (k : ℕ). k < 2 ^ 64) q (omega (arith, f refl))
 gap-reached false n d2 f e = let z : ◌≡◌ {A = ℕ} 0 1 = cc in absurd (omega arith)
 
-far-reached : (a : ApplyAnswer) (t : Tap) (d2 : ℕ) → far_off a t ≡ Squared d2 → d2 < 2 ^ 64
+far-reached : (a : Result Spot Refusal) (t : Tap) (d2 : ℕ) → far_off a t ≡ Some d2 → d2 < 2 ^ 64
 unfolding gap_of
-far-reached (Apply.Answered s) t d2 e =
+far-reached (Ok s) t d2 e =
     let dx = s.0 ⊟ in_sixteenths t.x in
     let dy = s.1 ⊟ in_sixteenths t.y in
     gap-reached _ (squared dx dy) d2 (λ h. squared-reach dx dy (and_left _ _ h) (and_right _ _ h)) e
-far-reached (Apply.Refused r) t d2 e = let z : ◌≡◌ {A = ℕ} 0 1 = cc in absurd (omega arith)
+far-reached (Err r) t d2 e = let z : ◌≡◌ {A = ℕ} 0 1 = cc in absurd (omega arith)
 
-miss-reached : (c : Cal) (p : Aim) (d2 : ℕ) → miss_of c p ≡ Squared d2 → d2 < 2 ^ 64
+miss-reached : (c : Cal) (p : Aim) (d2 : ℕ) → miss_of c p ≡ Some d2 → d2 < 2 ^ 64
 unfolding miss_of
 miss-reached c p d2 e = far-reached (apply_of c p.raw.x p.raw.y) p.tgt d2 e
 
@@ -61,10 +58,10 @@ abbrev AllReached : Misses → Type 0
 AllReached (known ds) = Reached ds
 AllReached wide = Unit {0}
 
-one-reached : (g : Gap) (ms : Misses) → ((d2 : ℕ) → g ≡ Squared d2 → d2 < 2 ^ 64) → AllReached ms → AllReached (besides g ms)
-one-reached (Squared d2) (known ds) f r = more (f d2 refl) r
-one-reached (Squared d2) wide f r = tt
-one-reached Wide ms f r = tt
+one-reached : (g : Option ℕ) (ms : Misses) → ((d2 : ℕ) → g ≡ Some d2 → d2 < 2 ^ 64) → AllReached ms → AllReached (besides g ms)
+one-reached (Some d2) (known ds) f r = more (f d2 refl) r
+one-reached (Some d2) wide f r = tt
+one-reached None ms f r = tt
 
 misses-reached : (c : Cal) (ps : List Aim) → AllReached (misses_of c ps)
 unfolding misses_of
@@ -109,11 +106,11 @@ mean-told (more {d2} {ds} h r) =
 
 -- ---- so of `resid`
 
-never : {X : Type 0} (r : Refusal) (s : Spread) → Refused r ≡ Answered s → X
+never : {X : Type 0} (r : Refusal) (s : Spread) → Err r ≡ Ok s → X
 never r s e = let z : ◌≡◌ {A = ℕ} 0 1 = cc in absurd (omega arith)
 
 apart : (long : Bool) (ms : Misses) (s t : Spread) → AllReached ms
-    → when◌then◌else◌ long (Refused Refusal.Long) (spread_by old_tenths_of ms) ≡ Answered s → when◌then◌else◌ long (Refused Refusal.Long) (spread_by tenths_of ms) ≡ Answered t
+    → when◌then◌else◌ long (Err Refusal.Long) (spread_by old_tenths_of ms) ≡ Ok s → when◌then◌else◌ long (Err Refusal.Long) (spread_by tenths_of ms) ≡ Ok t
     → OneMore s.mean t.mean × OneMore s.max t.max
 unfolding when◌then◌else◌
 apart true ms s t r e f = never Refusal.Long s e
@@ -126,6 +123,6 @@ apart false (known ds) s t r e f =
     subst (λ (y : Spread). OneMore (mean_of old) y.mean × OneMore (largest old) y.max) q (mean-told r, largest-told r))
 apart false wide s t r e f = never Refusal.Wide s e
 
-pub resid-apart : (c : Cal) (ps : List Aim) (s t : Spread) → resid_by old_tenths_of c ps ≡ Answered s → resid_of c ps ≡ Answered t → OneMore s.mean t.mean × OneMore s.max t.max
+pub resid-apart : (c : Cal) (ps : List Aim) (s t : Spread) → resid_by old_tenths_of c ps ≡ Ok s → resid_of c ps ≡ Ok t → OneMore s.mean t.mean × OneMore s.max t.max
 unfolding resid_by
 resid-apart c ps s t e f = apart (longest <? length ps) (misses_of c ps) s t (misses-reached c ps) e f

@@ -6,5 +6,4 @@ pub mod Follow
 pub mod Laws
 pub mod Promises
 pub mod Squares
-mod Magnitudes
 mod Loops

@@ -1,16 +1,18 @@
 -- What a turn of each loop over the points adds, and what there is after the last. Assumes nothing.
 use Prim.Native.Nat.{ℕ, zero, suc, ◌+◌, ◌*◌, ◌/◌, ◌≤◌, ◌<◌}
-use mathlib.Core.Path.{◌≡◌, refl}
-use mathlib.Core.Bool.{true}
+use mathlib.Core.Path.{◌≡◌, refl, ap, ◌∙◌}
+use mathlib.Core.Bool.{Bool}
 use mathlib.Core.List.{List, [], ◌∷◌, map}
 use native.Mathlib.Nat.{le_of_suc-le-suc, not-suc-le-zero, zero-add, add-zero, add_assoc, mul_comm, div-le_of_le-mul}
 use native.Mathlib.Numerals.{add-one}
 use native.Mathlib.Omega.{arith}
-use lib.ListN.{length, take, drop, get_or, length-take, drop_of_length-le, length-map}
-use lib.Seq.{drop-cons, get_or-take}
+use lib.ListN.{length, take, get_or, length-take, length-map}
+use Rattle.std.proofs.Math.Seq.{take-length}
 use mir.Syntax.{w16}
 use mir.Val.{Fits}
 use Rattle.panel.specs.Centroids.{xs, ys, total, mean, middle}
+use Rattle.std.specs.List.{list_all}
+use Rattle.panel.proofs.Follow.{both}
 use Rattle.panel.specs.Points.{on_panel, all_on_panel}
 use Rattle.panel.specs.Tests.{◌and◌}
 use Rattle.panel.specs.declared.points.Point.{Point}
@@ -27,9 +29,9 @@ module _ {A : Type 0} (f : A → ℕ) where
   total-more ps i d h = rw add-one (total-suc ps i d h)
 
 -- a coordinate's total, shared out among its points, is a coordinate again
-pub share : (t n : ℕ) → t ≤ 65535 * n → Fits w16 (t / n)
-share t n h =
-    let q : t / n ≤ 65535 = div-le_of_le-mul n (rw (mul_comm n 65535) h) in
+pub shared : {t m n : ℕ} → t ≤ 65535 * m → m ≤ n → Fits w16 (t / n)
+shared {t} {m} {n} h k =
+    let q : t / n ≤ 65535 = div-le_of_le-mul n (rw (mul_comm n 65535) (omega arith)) in
     record { fits = omega arith }
 
 -- the mean of some numbers is their total divided by how many they are
@@ -51,16 +53,14 @@ middle-some pts n h hn =
     let ey : length (ys (take n pts)) ≡ n = rw (length-map (take n pts) (λ p. p.y)) e in
     rw (mean-is (xs (take n pts)) n ex h, mean-is (ys (take n pts)) n ey h)
 
--- the points that are left, one by one
-pub all_more : (pts : List Point) (n i : ℕ) (d : Point) → i < n → n ≤ length pts → all_on_panel (drop i (take n pts)) ≡ ◌and◌ (on_panel (get_or pts i d)) (all_on_panel (drop (i + 1) (take n pts)))
-unfolding all_on_panel
-all_more pts n i d hi hn =
-    let h : i < length (take n pts) = rw length-take (omega arith) in
-    rw (drop-cons (take n pts) i d h, get_or-take n pts i d hi, add-one)
+-- past the last, all of them were taken
+pub all-taken : {A : Type 0} (xs : List A) (i : ℕ) → i ≤ length xs → length xs ≤ i → take i xs ≡ xs
+all-taken xs i h k =
+    let e : i ≡ length xs = omega arith in
+    ap (λ n. take n xs) e ∙ take-length xs
 
--- and none of them
-pub all_none : (pts : List Point) (n : ℕ) → n ≤ length pts → all_on_panel (drop n (take n pts)) ≡ true
+-- whether each is on the panel, as the library asks it of a list
+pub each-on-panel : (pts : List Point) → list_all on_panel pts ≡ all_on_panel pts
 unfolding all_on_panel
-all_none pts n hn =
-    let e : length (take n pts) ≡ n = rw length-take (omega arith) in
-    rw (drop_of_length-le (take n pts) {i = n} (omega arith))
+each-on-panel [] = refl
+each-on-panel (p ∷ pts) = both _ _ ∙ ap (λ (b : Bool). ◌and◌ (on_panel p) b) (each-on-panel pts)

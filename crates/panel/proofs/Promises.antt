@@ -1,5 +1,6 @@
 -- The public calls in document 01's numbers: what each tells for every input, and that its contract leaves no
 -- second answer. Assumes nothing.
+use Rattle.std.specs.Prelude.{Option, None, Result}
 use Prim.Native.Nat.{ℕ, ◌*◌, ◌≤◌, ◌<◌, max}
 use mathlib.Core.Bool.{Bool}
 use mathlib.Core.Path.{◌≡◌, refl, sym, ◌∙◌}
@@ -14,11 +15,6 @@ use Rattle.panel.specs.Refusals.{number_of, Told}
 use Rattle.panel.specs.Sizes.{lock_wide}
 use Rattle.panel.specs.Tests.{when◌then◌else◌, ◌and◌, ◌≤?◌, bit}
 use Rattle.panel.specs.declared.axes.Axis.{Axis}
-use Rattle.panel.specs.declared.axes.AxisLock.{AxisLock}
-use Rattle.panel.specs.declared.axes.AxisLock.TheVariants.{Free}
-use Rattle.panel.specs.declared.axes.LockAnswer.{LockAnswer}
-use Rattle.panel.specs.declared.distances.DistAnswer.{DistAnswer}
-use Rattle.panel.specs.declared.middle.CentroidAnswer.{CentroidAnswer}
 use Rattle.panel.specs.declared.points.Point.{Point}
 use Rattle.panel.specs.declared.refusals.Refusal.{Refusal}
 use Rattle.panel.specs.declared.refusals.Refusal.TheVariants.{State, Panel, Wide, Long, Target, Few, Huge, Version, Cut, Form, Big, Kind, File, Room, Line, Steep}
@@ -69,7 +65,7 @@ unfolding centroid_of
 centroid-tells count pts = if-of told_centroid _ _ _
 
 -- WIDE, number 3, exactly past the limit in either part.
-pub lock-tells : (dx dy : ℤ) → told_lock (lock_of dx dy) ≡ when◌then◌else◌ (◌and◌ (nat_abs dx ≤? lock_wide) (nat_abs dy ≤? lock_wide)) (tells 0 (axis_of (nat_abs dx) (nat_abs dy))) (tells 3 Free)
+pub lock-tells : (dx dy : ℤ) → told_lock (lock_of dx dy) ≡ when◌then◌else◌ (◌and◌ (nat_abs dx ≤? lock_wide) (nat_abs dy ≤? lock_wide)) (tells 0 (axis_of (nat_abs dx) (nat_abs dy))) (tells 3 None)
 unfolding lock_of
 lock-tells dx dy = if-of told_lock _ _ _
 
@@ -80,6 +76,9 @@ number-unique why = one_answer
 
 pub on-panel-unique : (p : Point) {r s : Bool} → r ≡ on_panel p → s ≡ on_panel p → r ≡ s
 on-panel-unique p = one_answer
+
+pub each-on-panel-unique : (ps : List Point) {r s : Bool} → r ≡ all_on_panel ps → s ≡ all_on_panel ps → r ≡ s
+each-on-panel-unique ps = one_answer
 
 pub fingers-unique : (count : ℕ) {r s : ℕ} → r ≡ fingers count → s ≡ fingers count → r ≡ s
 fingers-unique count = one_answer
@@ -97,10 +96,10 @@ module _ (p q : Point) where
   pub apart2-unique : {r s : ℕ} → r ≡ distance2 p q → s ≡ distance2 p q → r ≡ s
   apart2-unique = one_answer
 
-  pub dist-unique : {r s : DistAnswer} → r ≡ dist_of p q → s ≡ dist_of p q → r ≡ s
+  pub dist-unique : {r s : Result ℕ Refusal} → r ≡ dist_of p q → s ≡ dist_of p q → r ≡ s
   dist-unique = one_answer
 
-  pub dist2-unique : {r s : DistAnswer} → r ≡ dist2_of p q → s ≡ dist2_of p q → r ≡ s
+  pub dist2-unique : {r s : Result ℕ Refusal} → r ≡ dist2_of p q → s ≡ dist2_of p q → r ≡ s
   dist2-unique = one_answer
 
 module _ (count : ℕ) (pts : List Point) where
@@ -110,13 +109,13 @@ module _ (count : ℕ) (pts : List Point) where
   pub middle-unique : {r s : Point} → r ≡ middle (first_points count pts) → s ≡ middle (first_points count pts) → r ≡ s
   middle-unique = one_answer
 
-  pub centroid-unique : {r s : CentroidAnswer} → r ≡ centroid_of count pts → s ≡ centroid_of count pts → r ≡ s
+  pub centroid-unique : {r s : Result Point Refusal} → r ≡ centroid_of count pts → s ≡ centroid_of count pts → r ≡ s
   centroid-unique = one_answer
 
 pub magnitude-unique : (v : ℤ) {r s : ℕ} → r ≡ nat_abs v → s ≡ nat_abs v → r ≡ s
 magnitude-unique v = one_answer
 
-pub axis-along-unique : (ax ay : ℕ) {r s : AxisLock} → r ≡ axis_of ax ay → s ≡ axis_of ax ay → r ≡ s
+pub axis-along-unique : (ax ay : ℕ) {r s : Option Axis} → r ≡ axis_of ax ay → s ≡ axis_of ax ay → r ≡ s
 axis-along-unique ax ay = one_answer
 
 pub axis-number-unique : (a : Axis) {r s : ℕ} → r ≡ axis_number a → s ≡ axis_number a → r ≡ s
@@ -125,7 +124,7 @@ axis-number-unique a = one_answer
 pub bit-unique : (b : Bool) {r s : ℕ} → r ≡ bit b → s ≡ bit b → r ≡ s
 bit-unique b = one_answer
 
-pub lock-unique : (dx dy : ℤ) {r s : LockAnswer} → r ≡ lock_of dx dy → s ≡ lock_of dx dy → r ≡ s
+pub lock-unique : (dx dy : ℤ) {r s : Result (Option Axis) Refusal} → r ≡ lock_of dx dy → s ≡ lock_of dx dy → r ≡ s
 lock-unique dx dy = one_answer
 
 -- a square's contract has a bound besides

@@ -9,12 +9,12 @@ mod middle;
 mod points;
 mod refusals;
 mod truths;
-mod widths;
 
-pub use axes::{Axis, AxisLock, LockAnswer, axis_along, axis_number, lock_axis, magnitude};
-pub use distances::{DistAnswer, apart, apart2, dist, dist2, gap, larger, square};
-pub use middle::{CentroidAnswer, centroid, middle_of};
-pub use points::{Event, HEIGHT, MAX_POINTS, Point, WIDTH, all_on_panel, fingers_of, on_panel};
-pub use refusals::{Refusal, number};
+pub use axes::{Axis, axis_along, lock_axis, magnitude};
+pub use distances::{apart, apart2, dist, dist2, gap, square};
+pub use middle::{centroid, middle_of};
+pub use points::{
+    Event, HEIGHT, MAX_POINTS, Point, WIDTH, all_on_panel, each_on_panel, fingers_of, on_panel,
+};
+pub use refusals::Refusal;
 pub use truths::bit;
-pub use widths::{wide8, wide16};

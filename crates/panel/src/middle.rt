@@ -1,5 +1,5 @@
 // The middle of some fingers: of each coordinate the mean, rounded down.
-ghost use Rattle.std.specs.Prelude.{◌≡◌, ◌≤◌, ◌*◌, take};
+ghost use Rattle.std.specs.Prelude.{◌≡◌, ◌≤◌, ◌*◌, length};
 ghost use Rattle.panel.specs.Points.{first_points};
 ghost use Rattle.panel.specs.Sizes.{max_points};
 ghost use Rattle.panel.specs.Centroids.{xs, ys, total, middle, centroid_of};
@@ -9,33 +9,28 @@ use crate::points::{MAX_POINTS, Point};
 use crate::refusals::Refusal;
 
 #[derive(Clone, Copy)]
-pub enum CentroidAnswer {
-    Answered(Point),
-    Refused(Refusal),
-}
-
-#[derive(Clone, Copy)]
 struct Sums {
     x: u32,
     y: u32,
 }
 
-// Each coordinate of the first n points, added up.
-fn totals(n: usize, pts: [Point; MAX_POINTS]) -> Sums
-    requires { n ≤ max_points }
-    ensures { (result.x ≡ total (xs (take n pts))) × (result.y ≡ total (ys (take n pts))) × (result.x ≤ 65535 * n) × (result.y ≤ 65535 * n) }
+// Each coordinate of some points, added up. By `as`: with u32::from that the sums fit was left open.
+fn totals(pts: &[Point]) -> Sums
+    requires { length pts.now ≤ max_points }
+    ensures x { result.x ≡ total (xs pts.now) }
+    ensures y { result.y ≡ total (ys pts.now) }
+    ensures x_at_most { result.x ≤ 65535 * length pts.now }
+    ensures y_at_most { result.y ≤ 65535 * length pts.now }
 {
-    let mut x: u32 = 0;
-    let mut y: u32 = 0;
-    let mut i = 0;
-    while i < n {
-        let p = pts[i];
-        x += p.x as u32;
-        y += p.y as u32;
-        i += 1;
+    let mut sums = Sums { x: 0, y: 0 };
+    for p in pts {
+        sums.x += p.x as u32;
+        sums.y += p.y as u32;
     }
-    Sums { x, y }
+    sums
 }
+
+// Count and five places, as a report has them.
 
 // What centroid answers, for points that are known to be on the panel or need not be.
 pub fn middle_of(count: u8, pts: [Point; MAX_POINTS]) -> Point
@@ -45,7 +40,7 @@ pub fn middle_of(count: u8, pts: [Point; MAX_POINTS]) -> Point
     if n == 0 {
         return Point { x: 0, y: 0 };
     }
-    let t = totals(n, pts);
+    let t = totals(&pts[..n]);
     Point {
         x: (t.x / (n as u32)) as u16,
         y: (t.y / (n as u32)) as u16,
@@ -53,11 +48,12 @@ pub fn middle_of(count: u8, pts: [Point; MAX_POINTS]) -> Point
 }
 
 // The middle of the first `count` points, (0, 0) for none.
-pub fn centroid(count: u8, pts: [Point; MAX_POINTS]) -> CentroidAnswer
+pub fn centroid(count: u8, pts: [Point; MAX_POINTS]) -> Result<Point, Refusal>
     ensures { result ≡ centroid_of count pts }
 {
     if points::all_on_panel(count, pts) {
-        return CentroidAnswer::Answered(middle_of(count, pts));
+        Ok(middle_of(count, pts))
+    } else {
+        Err(Refusal::Panel)
     }
-    CentroidAnswer::Refused(Refusal::Panel)
 }

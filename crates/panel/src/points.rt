@@ -12,13 +12,13 @@ pub const HEIGHT: u16 = 320;
 pub const MAX_POINTS: usize = 5;
 
 // A place in pixels, from the upper left corner. Any two numbers: on_panel says whether it is on the panel.
-#[derive(Clone, Copy)]
+#[derive(Clone, Copy, PartialEq, Eq)]
 pub struct Point {
     pub x: u16,
     pub y: u16,
 }
 
-// A report of the controller.
+// A report of the controller: a count over five places, as document 01 has it and C hands it over.
 #[derive(Clone, Copy)]
 pub struct Event {
     // The number of fingers, 0 when all are up.
@@ -41,23 +41,19 @@ pub fn on_panel(p: Point) -> bool
 pub fn fingers_of(count: u8) -> usize
     ensures { (result ≡ fingers count) × (result ≤ max_points) }
 {
-    let n = count as usize;
-    if n < MAX_POINTS { n } else { MAX_POINTS }
+    usize::from(count).min(MAX_POINTS)
+}
+
+// Whether each of some points is on the panel.
+pub fn each_on_panel(pts: &[Point]) -> bool
+    ensures { result ≡ all_on_panel pts.now }
+{
+    pts.iter().all(|p| on_panel(*p))
 }
 
 // Whether the first `count` of the points are on the panel. The others may be anywhere.
 pub fn all_on_panel(count: u8, pts: [Point; MAX_POINTS]) -> bool
     ensures { result ≡ all_on_panel (first_points count pts) }
 {
-    let n = fingers_of(count);
-    let mut i = 0;
-    while i < n {
-        let p = pts[i];
-        if on_panel(p) {
-            i += 1;
-        } else {
-            return false;
-        }
-    }
-    true
+    each_on_panel(&pts[..fingers_of(count)])
 }

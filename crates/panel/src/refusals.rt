@@ -4,7 +4,7 @@
 ghost use Rattle.std.specs.Prelude.{◌≡◌};
 ghost use Rattle.panel.specs.Refusals.{number_of};
 
-#[derive(Clone, Copy)]
+#[derive(Clone, Copy, Debug, PartialEq, Eq)]
 pub enum Refusal {
     // The tracker or its byte image breaks a rule of its state.
     State,
@@ -41,25 +41,27 @@ pub enum Refusal {
 }
 
 // The number of a refusal. 0 is not among them: it says that a call was answered.
-pub fn number(r: Refusal) -> u8
-    ensures { result ≡ number_of r }
-{
-    match r {
-        Refusal::State => 1,
-        Refusal::Panel => 2,
-        Refusal::Wide => 3,
-        Refusal::Long => 4,
-        Refusal::Target => 5,
-        Refusal::Few => 6,
-        Refusal::Huge => 7,
-        Refusal::Version => 8,
-        Refusal::Cut => 9,
-        Refusal::Form => 10,
-        Refusal::Big => 11,
-        Refusal::Kind => 12,
-        Refusal::File => 13,
-        Refusal::Room => 14,
-        Refusal::Line => 16,
-        Refusal::Steep => 17,
+impl From<Refusal> for u8 {
+    ghost from_gives = { λ why n. n ≡ number_of why };
+
+    fn from(why: Refusal) -> u8 {
+        match why {
+            Refusal::State => 1,
+            Refusal::Panel => 2,
+            Refusal::Wide => 3,
+            Refusal::Long => 4,
+            Refusal::Target => 5,
+            Refusal::Few => 6,
+            Refusal::Huge => 7,
+            Refusal::Version => 8,
+            Refusal::Cut => 9,
+            Refusal::Form => 10,
+            Refusal::Big => 11,
+            Refusal::Kind => 12,
+            Refusal::File => 13,
+            Refusal::Room => 14,
+            Refusal::Line => 16,
+            Refusal::Steep => 17,
+        }
     }
 }

@@ -1,9 +1,9 @@
-// A truth as a number, for the log, the image and C.
+// A truth as a number, for the log, the image and C. It has a name, since the definitions name it `bit`.
 ghost use Rattle.std.specs.Prelude.{◌≡◌};
 ghost use Rattle.panel.specs.Tests as tests;
 
 pub fn bit(b: bool) -> u8
     ensures { result ≡ tests.bit b }
 {
-    if b { 1 } else { 0 }
+    u8::from(b)
 }

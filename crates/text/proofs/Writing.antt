@@ -1,11 +1,12 @@
 -- Pieces of a line as the code writes them, one after the other. Assumes nothing.
-use Prim.Native.Nat.{ℕ, suc, ◌+◌, ◌<◌}
+use Prim.Native.Nat.{ℕ, suc, ◌+◌, ◌-◌, ◌≤◌}
 use mathlib.Core.Path.{◌≡◌, refl, sym, ap, ◌∙◌}
 use mathlib.Core.List.{List, [], ◌∷◌, ◌++◌, append_assoc, append-nil}
 use native.Mathlib.Omega.{arith}
 use native.Mathlib.Numerals.{add-one}
-use lib.ListN.{length, take, get_or, set, length-append}
-use lib.Seq.{sets, take-suc, take-length, length-take-le}
+use borrow.Rule.Slice.PartMut.{put_mid, Post-is}
+use lib.ListN.{length, take, drop, set, length-append}
+use lib.Seq.{sets, sets-eq}
 use Rattle.text.specs.Words.{space, newline, spaced, line}
 use Rattle.text.specs.code.Written.{Written}
 
@@ -63,19 +64,18 @@ pub line_of : (ws : List (List ℕ)) {l : List ℕ} {at : ℕ} {w : List ℕ} {a
 unfolding line
 line_of ws p q u = written_then p (written_then q u)
 
--- A word, byte by byte: the first i of them are there.
+-- A word, copied over the part of the room that it takes.
 
-pub say-more : (l : List ℕ) (at : ℕ) (w : List ℕ) (i : ℕ) (m : List ℕ) → i < length w → m ≡ sets l at (take i w) → set m (at + i) (get_or w i 0) ≡ sets l at (take (i + 1) w)
-say-more l at w i m h e =
-    let k : length (take i w) ≡ i = length-take-le i w (omega arith) in
-    ap (λ (x : List ℕ). set x (at + i) (get_or w i 0)) e
-    ∙ ap (λ (x : ℕ). set (sets l at (take i w)) (at + x) (get_or w i 0)) (sym k)
-    ∙ sets_more l (take i w) at (get_or w i 0)
-    ∙ ap (sets l at) (sym (take-suc w i 0 h) ∙ ap (λ (n : ℕ). take n w) (sym (add-one i)))
-
-pub say-all : (l : List ℕ) (at : ℕ) (w : List ℕ) (i : ℕ) (m : List ℕ) → i ≡ length w → m ≡ sets l at (take i w) → Written l at w (at + i) m
-say-all l at w i m e f =
-    record { ends = omega arith; left = f ∙ ap (λ (n : ℕ). sets l at (take n w)) e ∙ ap (sets l at) (take-length w) }
+pub copied : (l : List ℕ) (at : ℕ) (w part : List ℕ) → at + length w ≤ length l → part ≡ w → Written l at w (at + length w) (put_mid at (at + length w - at) l part)
+copied l at w part h e =
+    record {
+      ends = refl;
+      left =
+          ap (put_mid at (at + length w - at) l) e
+          ∙ ap (λ (x : List ℕ). take at l ++ (w ++ x)) (Post-is at (at + length w) l (omega arith))
+          ∙ sym (append_assoc (take at l) w (drop (at + length w) l))
+          ∙ sym (sets-eq w l at h);
+    }
 
 pub letter-after : (l : List ℕ) (at x y : ℕ) → x ≡ y → Written l at (spaced ((y ∷ []) ∷ [])) (at + 2) (set (set l at space) (at + 1) x)
 letter-after l at x y e = rw (← e) (word_after l at (x ∷ []) (at + 2) _ (record { ends = omega arith; left = refl }))

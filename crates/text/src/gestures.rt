@@ -13,12 +13,16 @@ use panel::{Axis, Point};
 // The room that the longest words take: `Drag`, four coordinates of five digits, and the axis.
 pub const WORDS_MOST: usize = 31;
 
-// The words of a gesture by value: the first n bytes, with a space before each word. Behind them are zeros.
+// The words of a gesture: the first n bytes, with a space before each word. Behind them are zeros. The length stands
+// beside the bytes as in the definition `gesture_text_of`: they are handed out by value, and a slice would be of lent
+// room.
 #[derive(Clone, Copy)]
 pub struct GestureText {
     pub bytes: [u8; WORDS_MOST],
     pub n: usize,
 }
+
+// One function for each shape of a gesture's numbers: what they share is words::value, place and axis.
 
 fn with_number(out: &mut [u8], at: usize, name: &[u8], v: u64) -> usize
     requires { (length name.now ≤ name_most) × (v < small_end) × (at + words_most ≤ length out.old) }
@@ -59,6 +63,7 @@ fn moved(out: &mut [u8], at: usize, prev: Point, p: Point) -> usize
     words::place(out, b, p)
 }
 
+// By `as`, as in words::place: after u64::from the proof is left with from's result in place of the spans.
 fn pinch(out: &mut [u8], at: usize, axis: Axis, span0: u16, span: u16) -> usize
     requires { at + words_most ≤ length out.old }
     ensures written { Written out.old at (spaced (words_of (Pinch axis span0 span))) result out.new }
@@ -70,6 +75,7 @@ fn pinch(out: &mut [u8], at: usize, axis: Axis, span0: u16, span: u16) -> usize
     words::value(out, c, span as u64)
 }
 
+#[tactic(auto, unfolding(crate::specs::Gestures::words_of, crate::specs::Words::ascii))]
 pub(crate) fn gesture_words(out: &mut [u8], at: usize, g: Gesture) -> usize
     requires { at + words_most ≤ length out.old }
     ensures written { Written out.old at (spaced (words_of g)) result out.new }
@@ -87,16 +93,16 @@ pub(crate) fn gesture_words(out: &mut [u8], at: usize, g: Gesture) -> usize
         Gesture::SwipeUp => words::word(out, at, b"SwipeUp"),
         Gesture::SwipeDown => words::word(out, at, b"SwipeDown"),
         Gesture::Cancel => words::word(out, at, b"Cancel"),
-        Gesture::MultiSwipeDown(n) => with_number(out, at, b"MultiSwipeDown", n as u64),
-        Gesture::KeyDown(key) => with_number(out, at, b"KeyDown", key as u64),
-        Gesture::KeyUp(key) => with_number(out, at, b"KeyUp", key as u64),
+        Gesture::MultiSwipeDown(n) => with_number(out, at, b"MultiSwipeDown", u64::from(n)),
+        Gesture::KeyDown(key) => with_number(out, at, b"KeyDown", u64::from(key)),
+        Gesture::KeyUp(key) => with_number(out, at, b"KeyUp", u64::from(key)),
         Gesture::Move(prev, p) => moved(out, at, prev, p),
         Gesture::Pinch(axis, span0, span) => pinch(out, at, axis, span0, span),
         Gesture::PinchEnd(released) => with_number(
             out,
             at,
             b"PinchEnd",
-            panel::bit(released) as u64,
+            u64::from(panel::bit(released)),
         ),
     }
 }

@@ -9,4 +9,4 @@ mod playing;
 mod words;
 
 pub use gestures::{GestureText, WORDS_MOST, gesture_text};
-pub use playing::{Played, play};
+pub use playing::{INPUT_MOST, TEXT_MOST, play};

@@ -7,20 +7,16 @@ ghost use Rattle.trace.specs.Sizes.{most_bytes};
 ghost use Rattle.trace.specs.Traces.{records_from};
 
 use crate::lines;
-use gesture::Call;
-use numbers::Cursor;
 use panel::Refusal;
-use trace::Taken;
-
-// How long the text is, or that the room lent was too small.
-#[derive(Clone, Copy)]
-pub enum Played {
-    Wrote(usize),
-    Refused(Refusal),
-}
 
 // The longest line: `65535 Drag`, four coordinates of five digits, and the axis.
 pub const LINE_MOST: usize = 37;
+
+// The bytes of the longest trace and one more, by which a program that reads one knows a longer one.
+pub const INPUT_MOST: u64 = 65_537;
+
+// The longest text of as many bytes: 37 for each of them and for the last line.
+pub const TEXT_MOST: usize = 2_424_906;
 
 // The text of the records from a place on, at the start of the room. Each takes a byte or more, so that there
 // are no more of them than bytes.
@@ -32,51 +28,34 @@ fn records(s: &[u8], out: &mut [u8], from: usize) -> usize
     let mut t = gesture::fresh();
     let mut at = from;
     let mut to = 0;
-    let mut i: u64 = 0;
-    let mut left = s.len();
-    while 0 < left {
+    for i in 0..s.len() as u64 {
         if s.len() <= at {
             return lines::end_line(out, to, i);
         }
-        let r = trace::next_record(s, at);
-        let taken = r.taken;
-        let event = r.event;
-        match taken {
-            Taken::Call(kind, next) => {
-                let a = gesture::make(t, Call { kind, event });
-                let given = a.gesture;
-                to = lines::answer_line(out, to, i + 1, a.refusal, given);
+        match trace::next_record(s, at) {
+            Ok((call, next)) => {
+                let a = gesture::make(t, call);
+                to = lines::answer_line(out, to, i + 1, a.told);
                 t = a.tracker;
                 at = next;
             }
-            Taken::Refused(why, o) => {
-                return lines::stop_line(out, to, why, o);
-            }
+            Err(stop) => return lines::stop_line(out, to, stop),
         }
-        i += 1;
-        left -= 1;
     }
-    lines::end_line(out, to, i)
+    lines::end_line(out, to, s.len() as u64)
 }
 
 // The text of a trace, at the start of the room lent. The room asked for is that of the longest line for each
 // byte of the trace and for the last line: where there is less nothing is written.
-pub fn play(s: &[u8], out: &mut [u8]) -> Played
+pub fn play(s: &[u8], out: &mut [u8]) -> Result<usize, Refusal>
     ensures value { result ≡ played_of s.now out.old }
     ensures out_after { out.new ≡ left_of s.now out.old }
 {
     if out.len() / LINE_MOST <= s.len() {
-        return Played::Refused(Refusal::Room);
+        return Err(Refusal::Room);
     }
-    let c = trace::head(s);
-    match c {
-        Cursor::At(at) => {
-            let to = records(s, out, at);
-            Played::Wrote(to)
-        }
-        Cursor::Stop(why, o) => {
-            let to = lines::stop_line(out, 0, why, o);
-            Played::Wrote(to)
-        }
+    match trace::head(s) {
+        Ok(at) => Ok(records(s, out, at)),
+        Err(stop) => Ok(lines::stop_line(out, 0, stop)),
     }
 }

@@ -1,4 +1,8 @@
-// Words and numbers of a line, into lent room from a place on. Each function answers where it ended.
+// Words and numbers of a line, into lent room from a place on. Each function answers where it ended. Here and in
+// gestures and lines the room and the place are two arguments, and how much a function needs stands in its contract:
+// each contract says `Written out.old at bytes result out.new`, and a struct of room and place would say the same of
+// its fields. The bound small_end stands in each too: a type of the numbers below it would be made of a u16 or a count
+// at each call.
 ghost use Rattle.std.specs.Prelude.{◌≡◌, [], ◌∷◌, ◌+◌, ◌≤◌, ◌<◌, length};
 ghost use Rattle.text.specs.Sizes.{most_digits, small_end, small_digits};
 ghost use Rattle.text.specs.Words.{newline, digits_by, decimal, letter_of, spaced};
@@ -12,7 +16,8 @@ const ZERO: u64 = 48;
 // The most digits that a number has.
 const DIGITS_MOST: u64 = 20;
 
-// The digits of v, at most `left` of them, the highest first.
+// The digits of v, at most `left` of them, the highest first. By recursion, as digits_by is: the highest digit is
+// written first and known last.
 fn digits(out: &mut [u8], at: usize, v: u64, left: u64) -> usize
     requires { at + length (digits_by left v) ≤ length out.old }
     ensures { Written out.old at (digits_by left v) result out.new }
@@ -29,7 +34,8 @@ fn digits(out: &mut [u8], at: usize, v: u64, left: u64) -> usize
     a + 1
 }
 
-// A number. Most have four digits or fewer, and these are written straight away.
+// A number. Most have four digits or fewer, and these are written straight away. By hand, since the room is lent bytes:
+// std's Display wants a writer, which would keep the place a second time.
 pub(crate) fn number(out: &mut [u8], at: usize, v: u64) -> usize
     requires { (v < small_end) × (at + small_digits ≤ length out.old) }
     ensures written { Written out.old at (decimal v) result out.new }
@@ -66,12 +72,9 @@ pub(crate) fn say(out: &mut [u8], at: usize, w: &[u8]) -> usize
     requires { at + length w.now ≤ length out.old }
     ensures { Written out.old at w.now result out.new }
 {
-    let mut i = 0;
-    while i < w.len() {
-        out[at + i] = w[i];
-        i += 1;
-    }
-    at + i
+    let end = at + w.len();
+    out[at..end].copy_from_slice(w);
+    end
 }
 
 // A word, with the space before it.
@@ -84,7 +87,8 @@ pub(crate) fn word(out: &mut [u8], at: usize, w: &[u8]) -> usize
     say(out, at + 1, w)
 }
 
-// A number, with the space before it.
+// A number, with the space before it. Apart from `large` by their bounds: this one's room is of small_digits, and that
+// one's of most_digits.
 pub(crate) fn value(out: &mut [u8], at: usize, v: u64) -> usize
     requires { (v < small_end) × (at + 1 + small_digits ≤ length out.old) }
     ensures written { Written out.old at (spaced (decimal v ∷ [])) result out.new }
@@ -105,7 +109,7 @@ pub(crate) fn large(out: &mut [u8], at: usize, v: u64) -> usize
     digits(out, at + 1, v, DIGITS_MOST)
 }
 
-// A point's x and y.
+// A point's x and y. By `as`: after u64::from the proof is left with from's result, where words-then wants the number.
 pub(crate) fn place(out: &mut [u8], at: usize, p: Point) -> usize
     requires { at + 2 + small_digits + small_digits ≤ length out.old }
     ensures written { Written out.old at (spaced (decimal p.x ∷ decimal p.y ∷ [])) result out.new }
@@ -115,6 +119,9 @@ pub(crate) fn place(out: &mut [u8], at: usize, p: Point) -> usize
     value(out, a, p.y as u64)
 }
 
+// The byte of an axis, in the text alone: the programs print the axis in words of their own, the probe with `-` for
+// none.
+#[tactic(auto, unfolding(crate::specs::Words::letter_of))]
 fn letter(a: Axis) -> u8
     ensures { result ≡ letter_of a }
 {
@@ -129,9 +136,8 @@ pub(crate) fn axis(out: &mut [u8], at: usize, a: Axis) -> usize
     ensures written { Written out.old at (spaced ((letter_of a ∷ []) ∷ [])) result out.new }
     ensures value { result ≡ at + 2 }
 {
-    let l = letter(a);
     out[at] = b' ';
-    out[at + 1] = l;
+    out[at + 1] = letter(a);
     at + 2
 }
 

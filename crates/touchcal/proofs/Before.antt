@@ -1,5 +1,6 @@
 -- Without a calibration no tap is WIDE: coordinates are i16, and each sum of `apply16` is then 65536 times one of them. So what a fit tells
 -- of the residuals before it is always there, and a fit is WIDE by the calibration that it found. Assumes nothing.
+use Rattle.std.specs.Prelude.{Some, Ok}
 use Rattle.std.proofs.Common.{◌≡◌, ℕ, zero, suc, ◌*◌, ◌^◌, ◌<◌, ◌≤◌, true, ltb, List, [], ◌∷◌, ℤ, pos, negsuc, ◌*ℤ◌, neg_ℤ, refl, ap, ◌∙◌, arith, lt-ltb}
 use lib.IntN.{+ℤ_idr, zero-*ℤ}
 use lib.Signed.{mag}
@@ -14,8 +15,6 @@ use Rattle.calmap.specs.declared.units.Q16.{Q16}
 use Rattle.calmap.specs.declared.units.Tap.{Tap}
 use Rattle.calmap.specs.declared.units.Aim.{Aim}
 use Rattle.calmap.specs.declared.mapping.Spot.{Spot}
-use Rattle.calmap.specs.declared.mapping.ApplyAnswer.TheVariants as Apply
-use Rattle.calmap.specs.declared.gaps.Gap.TheVariants.{Squared}
 use Rattle.calmap.proofs.Bounds.{applied-size, miss-answered}
 use Rattle.touchcal.specs.Floats.{identity}
 
@@ -59,7 +58,7 @@ in-i16 v h = lt-ltb _ _ h
 
 record Landed (t : Tap) : Type 0 where
   pub spot : Spot
-  pub is : apply_of identity t.x t.y ≡ Apply.Answered spot
+  pub is : apply_of identity t.x t.y ≡ Ok spot
 
 landed : (t : Tap) → Small t → Landed t
 unfolding apply_of
@@ -69,7 +68,7 @@ landed t h =
 
 record Missed (p : Aim) : Type 0 where
   pub miss : ℕ
-  pub is : miss_of identity p ≡ Squared miss
+  pub is : miss_of identity p ≡ Some miss
 
 missed : (p : Aim) → Small p.raw → Small p.tgt → Missed p
 unfolding miss_of

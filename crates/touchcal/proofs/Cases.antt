@@ -1,5 +1,6 @@
 -- Cases computed from the definitions. Document 01's case of `fit`, on both sides of the line: "Corners (0,0) to (100,100) onto themselves +41 in x, target (240,160): c2 2,686,976,
 -- mean 0, max 0, before 410, Shift. +40 passes." An input for each refusal, and the edges of `q16`. Assumes nothing.
+use Rattle.std.specs.Prelude.{Result, Ok, Err}
 use Rattle.std.proofs.Common.{◌≡◌, ℕ, ◌+◌, true, false, List, [], ◌∷◌, map, replicate, ℤ, pos, negsuc, refl}
 use lib.Ieee.{nan, fin, of_bits, add, sub, mul, div, lt, of_int, to_signed}
 use Rattle.panel.specs.Tests.{when◌then◌else◌, ◌and◌, ◌or◌}
@@ -22,9 +23,8 @@ use Rattle.touchcal.specs.Floats.{in_reach, half_away, nearest_step, q16_of, out
 use Rattle.touchcal.specs.Moments.{place_of, add_pair, shared_of, add_about, moments_of}
 use Rattle.touchcal.specs.Solutions.{det_of, spreads, coefs_of, deltas_of, first_refused, stepped_of, solved_of}
 use Rattle.touchcal.specs.Fits.{fit_by, fit_of, told_fit}
-use Rattle.touchcal.specs.declared.floats.Q16Answer.TheVariants as Q16Answer
-use Rattle.touchcal.specs.declared.fitting.FitAnswer.{FitAnswer}
-use Rattle.touchcal.specs.declared.fitting.FitAnswer.TheVariants.{Answered}
+use Rattle.touchcal.specs.declared.fitting.Fit.{Fit}
+use Rattle.touchcal.specs.declared.fitting.Unfit.{Unfit}
 
 abbrev corner : ℕ → ℕ → ℕ → Aim
 corner k x y = record { raw = record { x = pos x; y = pos y }; tgt = record { x = pos (x + k); y = pos y } }
@@ -44,11 +44,11 @@ moved c2 =
     let none : Q16 = record { 0 = pos 0 } in
     record { c0 = none; c1 = none; c2 = record { 0 = pos c2 }; c3 = none; c4 = none; c5 = none }
 
-pub corners-41 : fit_of (corners 41) target ≡ Answered (record { cal = moved 2_686_976; mean = tenths 0; max = tenths 0; before = tenths 410; verdict = Shift })
+pub corners-41 : fit_of (corners 41) target ≡ Ok (record { cal = moved 2_686_976; mean = tenths 0; max = tenths 0; before = tenths 410; verdict = Shift })
 unfolding fit_by solved_of stepped_of moments_of place_of add_pair shared_of add_about det_of spreads coefs_of deltas_of steps_of in_steps q16_of in_reach nearest_step half_away resid_by misses_of miss_of largest apply_of line line_fits in32 in16 down digit root_by squared gap_of tenths_of check_of verdict_of scale_holds mild near stays all_stay on_panel all_on_panel sum_of mean_of when◌then◌else◌ ◌and◌ ◌or◌ of_bits add sub mul div lt of_int to_signed
 corners-41 = refl
 
-pub corners-40 : fit_of (corners 40) target ≡ Answered (record { cal = moved 2_621_440; mean = tenths 0; max = tenths 0; before = tenths 400; verdict = Pass })
+pub corners-40 : fit_of (corners 40) target ≡ Ok (record { cal = moved 2_621_440; mean = tenths 0; max = tenths 0; before = tenths 400; verdict = Pass })
 unfolding fit_by solved_of stepped_of moments_of place_of add_pair shared_of add_about det_of spreads coefs_of deltas_of steps_of in_steps q16_of in_reach nearest_step half_away resid_by misses_of miss_of largest apply_of line line_fits in32 in16 down digit root_by squared gap_of tenths_of check_of verdict_of scale_holds mild near stays all_stay on_panel all_on_panel sum_of mean_of when◌then◌else◌ ◌and◌ ◌or◌ of_bits add sub mul div lt of_int to_signed
 corners-40 = refl
 
@@ -70,11 +70,11 @@ shifted c2 c5 =
     let none : Q16 = record { 0 = pos 0 } in
     record { c0 = none; c1 = none; c2 = record { 0 = pos c2 }; c3 = none; c4 = none; c5 = record { 0 = pos c5 } }
 
-pub at-the-limit : fit_of (opposite 50 4) target ≡ Answered (record { cal = shifted 1_638_400 131_072; mean = tenths 250; max = tenths 250; before = tenths 250; verdict = Pass })
+pub at-the-limit : fit_of (opposite 50 4) target ≡ Ok (record { cal = shifted 1_638_400 131_072; mean = tenths 250; max = tenths 250; before = tenths 250; verdict = Pass })
 unfolding fit_by solved_of stepped_of moments_of place_of add_pair shared_of add_about det_of spreads coefs_of deltas_of steps_of in_steps q16_of in_reach nearest_step half_away resid_by misses_of miss_of largest apply_of line line_fits in32 in16 down digit root_by squared gap_of tenths_of check_of verdict_of scale_holds mild near stays all_stay on_panel all_on_panel sum_of mean_of when◌then◌else◌ ◌and◌ ◌or◌ of_bits add sub mul div lt of_int to_signed
 at-the-limit = refl
 
-pub over-the-limit : fit_of (opposite 50 5) target ≡ Answered (record { cal = shifted 1_638_400 163_840; mean = tenths 251; max = tenths 251; before = tenths 251; verdict = Resid })
+pub over-the-limit : fit_of (opposite 50 5) target ≡ Ok (record { cal = shifted 1_638_400 163_840; mean = tenths 251; max = tenths 251; before = tenths 251; verdict = Resid })
 unfolding fit_by solved_of stepped_of moments_of place_of add_pair shared_of add_about det_of spreads coefs_of deltas_of steps_of in_steps q16_of in_reach nearest_step half_away resid_by misses_of miss_of largest apply_of line line_fits in32 in16 down digit root_by squared gap_of tenths_of check_of verdict_of scale_holds mild near stays all_stay on_panel all_on_panel sum_of mean_of when◌then◌else◌ ◌and◌ ◌or◌ of_bits add sub mul div lt of_int to_signed
 over-the-limit = refl
 
@@ -89,7 +89,7 @@ same x y = pair (pos x) (pos y) (pos x) (pos y)
 abbrev onto : ℤ → ℤ → ℤ → ℤ → ℤ → ℤ → List Aim
 onto u v u1 v1 u2 v2 = pair (pos 0) (pos 0) u v ∷ pair (pos 2) (pos 0) u1 v1 ∷ pair (pos 0) (pos 2) u2 v2 ∷ []
 
-abbrev why_told : FitAnswer → ℕ × ℕ
+abbrev why_told : Result Fit Unfit → ℕ × ℕ
 why_told a = ((told_fit a).number, (told_fit a).value.place.0)
 
 pub refusals : map why_told
@@ -156,12 +156,12 @@ pub q16-edges : map q16_of
     ∷ fin true 1 (negsuc 16)
     ∷ fin false 16_777_215 (negsuc 40)
     ∷ [])
-    ≡ Q16Answer.Refused Huge
-    ∷ Q16Answer.Refused Huge
-    ∷ Q16Answer.Answered (record { 0 = pos 1_999_999_872 })
-    ∷ Q16Answer.Answered (record { 0 = pos 1 })
-    ∷ Q16Answer.Answered (record { 0 = negsuc 0 })
-    ∷ Q16Answer.Answered (record { 0 = pos 1 })
+    ≡ Err Huge
+    ∷ Err Huge
+    ∷ Ok (record { 0 = pos 1_999_999_872 })
+    ∷ Ok (record { 0 = pos 1 })
+    ∷ Ok (record { 0 = negsuc 0 })
+    ∷ Ok (record { 0 = pos 1 })
     ∷ []
 unfolding q16_of in_reach nearest_step half_away when◌then◌else◌ ◌and◌ add sub mul lt to_signed
 q16-edges = refl

@@ -1,5 +1,6 @@
 -- The first pairs and the first targets of arrays that hold 64: where `fit` refuses them, and what it comes to where it does not. The
 -- targets are refused as `check` refuses them, for any calibration. Assumes nothing.
+use Rattle.std.specs.Prelude.{Result, Ok, Err}
 use Rattle.std.proofs.Common.{◌≡◌, ℕ, ◌<◌, ◌≤◌, Bool, true, false, List, length, take, sym, refl, ◌∙◌, arith, length-take, ltb-false, le-ltb}
 use Rattle.calmap.specs.code.Arrays.{held_pairs, held_points}
 use Rattle.calmap.specs.declared.units.Tap.{Tap}
@@ -11,21 +12,19 @@ use Rattle.panel.specs.declared.refusals.Refusal.{Refusal}
 use Rattle.panel.specs.declared.refusals.Refusal.TheVariants.{Long, Target}
 use Rattle.panel.proofs.Follow.{follow, if-true, if-false, or-false}
 use Rattle.calmap.specs.Sizes.{longest}
-use Rattle.calmap.specs.Distances.{tenths_of}
-use Rattle.calmap.specs.Resids.{pairs_of, resid_of, resid_first, resid_first_by}
+use Rattle.calmap.specs.Distances.{Rule}
+use Rattle.calmap.specs.Resids.{pairs_of, resid_by, resid_first_by}
 use Rattle.calmap.specs.Checks.{verdict_of, check_of, check_first}
 use Rattle.calmap.specs.declared.units.Cal.{Cal}
 use Rattle.calmap.specs.declared.units.Aim.{Aim}
 use Rattle.calmap.specs.declared.limits.Verdict.{Verdict}
-use Rattle.calmap.specs.declared.limits.CheckAnswer.{CheckAnswer}
-use Rattle.calmap.specs.declared.limits.CheckAnswer.TheVariants as Check
 use Rattle.touchcal.specs.Solutions.{solved_of}
 use Rattle.touchcal.specs.Fits.{fitted_by, fit_of, fit_by}
-use Rattle.touchcal.specs.code.Arrays.{cal_or_identity, fit_first, fit_first_by, fit_held}
-use Rattle.touchcal.specs.declared.solving.Solved.{Solved}
-use Rattle.touchcal.specs.declared.solving.Solved.TheVariants.{Is}
-use Rattle.touchcal.specs.declared.fitting.FitAnswer.{FitAnswer}
-use Rattle.touchcal.specs.declared.fitting.FitAnswer.TheVariants.{Refused}
+use Rattle.touchcal.specs.code.Arrays.{cal_or_identity, fit_first_by, fit_held}
+use Rattle.touchcal.specs.declared.solving.Unsolved.{Unsolved}
+use Rattle.touchcal.specs.declared.fitting.Fit.{Fit}
+use Rattle.touchcal.specs.declared.fitting.Unfit.{Unfit}
+use Rattle.touchcal.specs.declared.fitting.Unfit.TheVariants.{Refused}
 use Rattle.touchcal.proofs.Choices.{neither_left, neither_right}
 
 by-test : {X : Type 0} (b : Bool) → (b ≡ true → X) → (b ≡ false → X) → X
@@ -33,66 +32,66 @@ by-test true f g = f refl
 by-test false f g = g refl
 
 -- the same three tests, of `check` and of `fit`
-abbrev of_check : Bool → Bool → Bool → CheckAnswer → CheckAnswer
-of_check long longer on x = when long then Check.Refused Long else when longer then Check.Refused Long else when on then x else Check.Refused Target
+abbrev of_check : Bool → Bool → Bool → Result Verdict Refusal → Result Verdict Refusal
+of_check long longer on x = when long then Err Long else when longer then Err Long else when on then x else Err Target
 
-abbrev of_fit : Bool → Bool → Bool → FitAnswer → FitAnswer
-of_fit long longer on x = when long then Refused Long else when longer then Refused Long else when on then x else Refused Target
+abbrev of_fit : Bool → Bool → Bool → Result Fit Unfit → Result Fit Unfit
+of_fit long longer on x = when long then Err (Refused Long) else when longer then Err (Refused Long) else when on then x else Err (Refused Target)
 
-both-refuse : (l l' on : Bool) (v : Verdict) (x : FitAnswer) (r : Refusal) → of_check l l' on (Check.Answered v) ≡ Check.Refused r → of_fit l l' on x ≡ Refused r
+both-refuse : (l l' on : Bool) (v : Verdict) (x : Result Fit Unfit) (r : Refusal) → of_check l l' on (Ok v) ≡ Err r → of_fit l l' on x ≡ Err (Refused r)
 unfolding when◌then◌else◌
 both-refuse true l' on v x r e = cc
 both-refuse false true on v x r e = cc
-both-refuse false false true v x r e = let z : ◌≡◌ {A = ℕ} 0 1 = cc in absurd (omega arith)
+both-refuse false false true v x r e = cc
 both-refuse false false false v x r e = cc
 
-both-go-on : (l l' on : Bool) (v w : Verdict) (x : FitAnswer) → of_check l l' on (Check.Answered v) ≡ Check.Answered w → of_fit l l' on x ≡ x
+both-go-on : (l l' on : Bool) (v w : Verdict) (x : Result Fit Unfit) → of_check l l' on (Ok v) ≡ Ok w → of_fit l l' on x ≡ x
 unfolding when◌then◌else◌
-both-go-on true l' on v w x e = let z : ◌≡◌ {A = ℕ} 0 1 = cc in absurd (omega arith)
-both-go-on false true on v w x e = let z : ◌≡◌ {A = ℕ} 0 1 = cc in absurd (omega arith)
+both-go-on true l' on v w x e = cc
+both-go-on false true on v w x e = cc
 both-go-on false false true v w x e = refl
-both-go-on false false false v w x e = let z : ◌≡◌ {A = ℕ} 0 1 = cc in absurd (omega arith)
+both-go-on false false false v w x e = cc
 
-not-refused : (l : Bool) (x : CheckAnswer) (v : Verdict) → (when l then Check.Refused Long else x) ≡ Check.Answered v → l ≡ false
+not-refused : (l : Bool) (x : Result Verdict Refusal) (v : Verdict) → (when l then Err Long else x) ≡ Ok v → l ≡ false
 unfolding when◌then◌else◌
-not-refused true x v e = let z : ◌≡◌ {A = ℕ} 0 1 = cc in absurd (omega arith)
+not-refused true x v e = cc
 not-refused false x v e = refl
 
 not-long : {A : Type 0} (n : ℕ) (xs : List A) → n ≤ longest → longest <? length (take n xs) ≡ false
 not-long n xs h = le-ltb longest (length (take n xs)) (rw length-take (omega arith))
 
-module _ (n : ℕ) (ps : List Aim) (m : ℕ) (ts : List Point) where
-  pub fit-long : longest < n → fit_first n ps m ts ≡ Refused Long
+module _ (rule : Rule) (n : ℕ) (ps : List Aim) (m : ℕ) (ts : List Point) where
+  pub fit-long : longest < n → fit_first_by rule n ps m ts ≡ Err (Refused Long)
   unfolding fit_first_by
   fit-long h = search follow
 
   module _ (few : n ≤ longest) where
-    abbrev solution : FitAnswer
-    solution = fitted_by tenths_of (solved_of (take n ps)) (take n ps) (take m ts)
+    abbrev solution : Result Fit Unfit
+    solution = fitted_by rule (solved_of (take n ps)) (take n ps) (take m ts)
 
-    fit-first : fit_first n ps m ts ≡ of_fit (longest <? m) (longest <? length (take m ts)) (all_on_panel (take m ts)) solution
+    fit-first : fit_first_by rule n ps m ts ≡ of_fit (longest <? m) (longest <? length (take m ts)) (all_on_panel (take m ts)) solution
     unfolding fit_first_by fit_by
     fit-first = rw (or-false _ _ (le-ltb _ _ few), or-false _ _ (not-long n ps few))
 
-    pub fit_refused : (c : Cal) (r : Refusal) → check_first c m ts ≡ Check.Refused r → fit_first n ps m ts ≡ Refused r
+    pub fit_refused : (c : Cal) (r : Refusal) → check_first c m ts ≡ Err r → fit_first_by rule n ps m ts ≡ Err (Refused r)
     unfolding check_first check_of
     fit_refused c r e = rw fit-first (both-refuse _ _ _ (verdict_of c (take m ts)) _ r e)
 
-    pub fit-goes-on : (c : Cal) (v : Verdict) → check_first c m ts ≡ Check.Answered v → fit_first n ps m ts ≡ solution
+    pub fit-goes-on : (c : Cal) (v : Verdict) → check_first c m ts ≡ Ok v → fit_first_by rule n ps m ts ≡ solution
     unfolding check_first check_of
     fit-goes-on c v e = rw fit-first (both-go-on _ _ _ (verdict_of c (take m ts)) v _ e)
 
-    pub resid-first : (c : Cal) → resid_first c n ps ≡ resid_of c (take n ps)
+    pub resid-first : (c : Cal) → resid_first_by rule c n ps ≡ resid_by rule c (take n ps)
     unfolding resid_first_by
     resid-first c = if-false _ _ _ (le-ltb _ _ few)
 
-    pub check-first : (c d : Cal) (v : Verdict) → check_first d m ts ≡ Check.Answered v → check_first c m ts ≡ check_of c (take m ts)
+    pub check-first : (c d : Cal) (v : Verdict) → check_first d m ts ≡ Ok v → check_first c m ts ≡ check_of c (take m ts)
     unfolding check_first
     check-first c d v e = if-false _ _ _ (not-refused _ _ v e)
 
 -- ---- the calibration that is judged
 
-pub found-is : (s : Solved) (c : Cal) → s ≡ Is c → cal_or_identity s ≡ c
+pub found-is : (s : Result Cal Unsolved) (c : Cal) → s ≡ Ok c → cal_or_identity s ≡ c
 unfolding cal_or_identity
 found-is s c e = rw e
 

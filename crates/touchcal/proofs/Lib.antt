@@ -1,11 +1,11 @@
 -- What the crates above may cite: `Promises`, what each public call tells; `RoundTrip`, from_f32 after to_f32; `Reach`, six coefficients at
--- once; `Fitted`, `fit` case by case and where its numbers come from; `Unfit`, where it is FEW, LINE and STEEP; `Rules`, `fit` by another rule of tenths; `Before`, that no tap is
+-- once; `Fitted`, `fit` case by case and where its numbers come from; `Nones`, where it is FEW, LINE and STEEP; `Rules`, `fit` by another rule of tenths; `Before`, that no tap is
 -- WIDE without a calibration; `Firsts`, arrays by value and lent lists; `Cases`. The other modules serve this crate's own proofs.
 pub mod Promises
 pub mod RoundTrip
 pub mod Reach
 pub mod Fitted
-pub mod Unfit
+pub mod Nones
 pub mod Rules
 pub mod Before
 pub mod Firsts
@@ -13,5 +13,4 @@ pub mod Cases
 mod Cuts
 mod Wholes
 mod Fractions
-mod Folds
 mod Choices

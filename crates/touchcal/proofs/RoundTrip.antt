@@ -1,5 +1,6 @@
 -- The round trip: a coefficient of at most 2 ^ 23 steps either way comes back from its float. Each operation on the way is exact, but for
 -- the half that is added at 2 ^ 23, a tie that goes to the even. One step further it fails. Assumes nothing.
+use Rattle.std.specs.Prelude.{Ok}
 use Rattle.std.proofs.Common.{◌≡◌, ℕ, suc, ◌+◌, ◌-◌, ◌*◌, ◌/◌, ◌^◌, ◌<◌, ◌≤◌, min, Bool, true, false, cond, not, List, [], ◌∷◌, map, ℤ, pos, negsuc, neg_ℤ, nat_abs, sym, refl, ap, ◌∙◌, subst, inl, inr, mul-le-mul_right, zero-lt-suc, eq-or-lt_of_le, mul-pos, lt_of_not-le, mul_right_comm, arith, lit≤, le-ltb, lt-ltb}
 use native.Mathlib.Decide.{dec_lt}
 use lib.Ieee.{Float, nan, inf, fin, binary32, up, down, round, neg, add, sub, mul, div, lt, of_int, to_signed}
@@ -14,8 +15,6 @@ use Rattle.calmap.specs.declared.units.Cal.{Cal}
 use Rattle.touchcal.specs.Binary32.{◌⊕◌, ◌⊖◌, ◌⊗◌, ◌⊘◌, ◌⊲◌, float, cut}
 use Rattle.touchcal.specs.Sizes.{zero32, half32, one32, scale32, most32, least32}
 use Rattle.touchcal.specs.Floats.{in_reach, half_away, nearest_step, q16_of, out_of, to_f32_of, off_identity, in_steps, steps_of, from_f32_of}
-use Rattle.touchcal.specs.declared.floats.Q16Answer.TheVariants as Q16Answer
-use Rattle.touchcal.specs.declared.floats.CalAnswer.TheVariants as CalAnswer
 use Rattle.touchcal.proofs.Fractions.{sum_is, add_at, exact, over, scaled, both, less, more}
 
 -- ---- what the identity has in a place, on and off
@@ -140,19 +139,19 @@ under-high (inf t) s n h v = absurd v
 under-high (fin true m e) s n h v = lt-ltb 0 (m * up e * 1 + 2000000000 * down e) (omega (arith, down_pos e))
 under-high (fin false m e) s n h v = lt-ltb (m * up e * 1) (2000000000 * down e) (omega (arith, v.1, mul-le-mul_right (down e) h, down_pos e))
 
-answered : (v : Float) → least32 ⊲ v ⊗ scale32 ≡ true → v ⊗ scale32 ⊲ most32 ≡ true → q16_of v ≡ Q16Answer.Answered (record { 0 = cut (half_away (v ⊗ scale32)) })
+answered : (v : Float) → least32 ⊲ v ⊗ scale32 ≡ true → v ⊗ scale32 ⊲ most32 ≡ true → q16_of v ≡ Ok (record { 0 = cut (half_away (v ⊗ scale32)) })
 unfolding q16_of in_reach nearest_step
 answered v h k = search follow
 
 module _ (x : Float) (n : ℕ) (small : n ≤ 2 ^ 23) where
-  steps_up : HasValue x false n 65536 → q16_of x ≡ Q16Answer.Answered (record { 0 = pos n })
+  steps_up : HasValue x false n 65536 → q16_of x ≡ Ok (record { 0 = pos n })
   steps_up v =
       let y = x ⊗ scale32 in
       let w = scaled x false n (omega arith) v in
       let z : cut (half_away y) ≡ pos n = rw (away-up y n w) (cut-round false n small) in
       rw z at (answered x (over-low y false n small w) (under-high y false n small w))
 
-  steps-down : 0 < n → HasValue x true n 65536 → q16_of x ≡ Q16Answer.Answered (record { 0 = neg_ℤ (pos n) })
+  steps-down : 0 < n → HasValue x true n 65536 → q16_of x ≡ Ok (record { 0 = neg_ℤ (pos n) })
   steps-down p v =
       let y = x ⊗ scale32 in
       let w = scaled x true n (omega arith) v in
@@ -170,7 +169,7 @@ unfolding of_int
 whole-down k h = round_whole binary32 true (suc k) (omega arith)
 
 module _ (base : Float) (b : ℕ) (few : b ≤ 65536) (is : HasValue base false b 65536) where
-  pub one-back : (z : ℤ) → nat_abs z ≤ 2 ^ 23 → q16_of (out_of base z ⊖ base) ≡ Q16Answer.Answered (record { 0 = z })
+  pub one-back : (z : ℤ) → nat_abs z ≤ 2 ^ 23 → q16_of (out_of base z ⊖ base) ≡ Ok (record { 0 = z })
   unfolding out_of
   one-back (pos n) h =
       let x = float (pos n) ⊘ scale32 in
@@ -192,7 +191,7 @@ pub record Within (c : Cal) : Type 0 where
   pub c4 : nat_abs c.c4.0 ≤ 8_388_608
   pub c5 : nat_abs c.c5.0 ≤ 8_388_608
 
-pub round_trip : (c : Cal) → Within c → from_f32_of (to_f32_of c) ≡ CalAnswer.Answered c
+pub round_trip : (c : Cal) → Within c → from_f32_of (to_f32_of c) ≡ Ok c
 unfolding from_f32_of steps_of in_steps off_identity to_f32_of
 round_trip c w =
     let one = one-back one32 65536 (lit≤ tt) (refl, refl) in
@@ -215,10 +214,10 @@ alone z =
     ∷ record { c0 = none; c1 = none; c2 = none; c3 = none; c4 = none; c5 = at }
     ∷ []
 
-pub no-further-up : map (λ c. from_f32_of (to_f32_of c)) (alone (pos 8_388_609)) ≡ map (λ c. CalAnswer.Answered c) (alone (pos 8_388_610))
+pub no-further-up : map (λ c. from_f32_of (to_f32_of c)) (alone (pos 8_388_609)) ≡ map (λ c. Ok c) (alone (pos 8_388_610))
 unfolding from_f32_of steps_of in_steps off_identity to_f32_of out_of q16_of in_reach nearest_step half_away when◌then◌else◌ ◌and◌ add sub mul div lt of_int to_signed
 no-further-up = refl
 
-pub no-further-down : map (λ c. from_f32_of (to_f32_of c)) (alone (neg_ℤ (pos 8_388_609))) ≡ map (λ c. CalAnswer.Answered c) (alone (neg_ℤ (pos 8_388_610)))
+pub no-further-down : map (λ c. from_f32_of (to_f32_of c)) (alone (neg_ℤ (pos 8_388_609))) ≡ map (λ c. Ok c) (alone (neg_ℤ (pos 8_388_610)))
 unfolding from_f32_of steps_of in_steps off_identity to_f32_of out_of q16_of in_reach nearest_step half_away when◌then◌else◌ ◌and◌ add sub mul div lt of_int to_signed
 no-further-down = refl

@@ -5,12 +5,11 @@
 -- Shift, then Resid if max > 250." Mean, max and before are those of `resid`, Scale and Shift those of `check`. Document 02,
 -- [2]: NOFIT divides, "6 becomes FEW, 16 LINE, 17 STEEP, in that order, after TARGET and before WIDE; STEEP alone carries a
 -- value, the coefficient's place". It is stated over the rule of tenths that `resid` goes by (calmap's Distances).
-use Rattle.std.specs.Prelude.{List, length}
+use Rattle.std.specs.Prelude.{List, length, Result, Ok, Err}
 use Rattle.panel.specs.Tests.{when◌then◌else◌, ◌or◌, ◌<?◌}
 use Rattle.panel.specs.Points.{all_on_panel}
 use Rattle.panel.specs.Refusals.{Told, answered, refused}
 use Rattle.panel.specs.declared.points.Point.{Point}
-use Rattle.panel.specs.declared.refusals.Refusal.TheVariants as Refusal
 use Rattle.calmap.specs.Sizes.{longest}
 use Rattle.calmap.specs.Units.{tenths, over}
 use Rattle.calmap.specs.Distances.{Rule, tenths_of}
@@ -20,19 +19,16 @@ use Rattle.calmap.specs.declared.units.Cal.{Cal}
 use Rattle.calmap.specs.declared.units.Aim.{Aim}
 use Rattle.calmap.specs.declared.units.Tenths.{Tenths}
 use Rattle.calmap.specs.declared.residuals.Spread.{Spread}
-use Rattle.calmap.specs.declared.residuals.ResidAnswer.{ResidAnswer}
-use Rattle.calmap.specs.declared.residuals.ResidAnswer.TheVariants as Resid
 use Rattle.calmap.specs.declared.limits.Verdict.{Verdict}
-use Rattle.calmap.specs.declared.limits.CheckAnswer.{CheckAnswer}
-use Rattle.calmap.specs.declared.limits.CheckAnswer.TheVariants as Check
 use Rattle.touchcal.specs.Sizes.{resid_limit}
 use Rattle.touchcal.specs.Floats.{identity}
 use Rattle.touchcal.specs.Solutions.{place, solved_of}
 use Rattle.touchcal.specs.declared.floats.CoefPlace.{CoefPlace}
-use Rattle.touchcal.specs.declared.solving.Solved.{Solved}
+use Rattle.touchcal.specs.declared.solving.Unsolved.{Unsolved}
 use Rattle.touchcal.specs.declared.fitting.Fit.{Fit}
-use Rattle.touchcal.specs.declared.fitting.FitAnswer.{FitAnswer}
-use Rattle.touchcal.specs.declared.fitting.FitAnswer.TheVariants.{Answered, Refused, Steep}
+use Rattle.touchcal.specs.declared.fitting.Unfit.{Unfit}
+use Rattle.touchcal.specs.declared.fitting.Unfit.TheVariants.{Refused, Steep}
+use Rattle.panel.specs.declared.refusals.Refusal.{Refusal}
 
 -- the verdict of `check`, and then the residuals
 abbrev pub judged_by : Verdict → Tenths → Verdict
@@ -46,27 +42,31 @@ abbrev pub fit_with : Cal → Spread → Spread → Verdict → Fit
 fit_with c after before v =
     record { cal = c; mean = after.mean; max = after.max; before = before.mean; verdict = judged_by v after.max }
 
-abbrev pub weighed : Cal → ResidAnswer → ResidAnswer → CheckAnswer → FitAnswer
-weighed c (Resid.Answered s) (Resid.Answered s0) (Check.Answered v) = Answered (fit_with c s s0 v)
-weighed c (Resid.Answered s) (Resid.Answered s0) (Check.Refused r) = Refused r
-weighed c (Resid.Answered s) (Resid.Refused r) k = Refused r
-weighed c (Resid.Refused r) before k = Refused r
+abbrev pub weighed : Cal → Result Spread Refusal → Result Spread Refusal → Result Verdict Refusal → Result Fit Unfit
+weighed c (Ok s) (Ok s0) (Ok v) = Ok (fit_with c s s0 v)
+weighed c (Ok s) (Ok s0) (Err r) = Err (Refused r)
+weighed c (Ok s) (Err r) k = Err (Refused r)
+weighed c (Err r) before k = Err (Refused r)
+
+-- what says that there is no solution
+abbrev pub unfit_of : Unsolved → Unfit
+unfit_of Unsolved.Few = Refused Refusal.Few
+unfit_of Unsolved.Line = Refused Refusal.Line
+unfit_of (Unsolved.Steep p) = Steep p
 
 -- what is solved is measured and judged; where the Rust says `None`, it is said why
-abbrev pub fitted_by : Rule → Solved → List Aim → List Point → FitAnswer
-fitted_by rule (Solved.Is c) ps ts = weighed c (resid_by rule c ps) (resid_by rule identity ps) (check_of c ts)
-fitted_by rule Solved.Few ps ts = Refused Refusal.Few
-fitted_by rule Solved.Line ps ts = Refused Refusal.Line
-fitted_by rule (Solved.Steep p) ps ts = Steep p
+abbrev pub fitted_by : Rule → Result Cal Unsolved → List Aim → List Point → Result Fit Unfit
+fitted_by rule (Ok c) ps ts = weighed c (resid_by rule c ps) (resid_by rule identity ps) (check_of c ts)
+fitted_by rule (Err why) ps ts = Err (unfit_of why)
 
-unfoldable pub fit_by : Rule → List Aim → List Point → FitAnswer
+unfoldable pub fit_by : Rule → List Aim → List Point → Result Fit Unfit
 fit_by rule ps ts =
-    when longest <? length ps or longest <? length ts then Refused Refusal.Long
+    when longest <? length ps or longest <? length ts then Err (Refused Refusal.Long)
     else when all_on_panel ts then fitted_by rule (solved_of ps) ps ts
-    else Refused Refusal.Target
+    else Err (Refused Refusal.Target)
 
 -- by the rule of the calls
-abbrev pub fit_of : List Aim → List Point → FitAnswer
+abbrev pub fit_of : List Aim → List Point → Result Fit Unfit
 fit_of = fit_by tenths_of
 
 -- what a fit tells; zeros and no verdict for a refusal, but that STEEP tells a place
@@ -81,8 +81,8 @@ pub record Tells : Type 0 where
 abbrev pub unmeasured : CoefPlace → Tells
 unmeasured p = record { cal = identity; mean = tenths 0; max = tenths 0; before = tenths 0; verdict = none; place = p }
 
-abbrev pub told_fit : FitAnswer → Told Tells
-told_fit (Answered f) =
+abbrev pub told_fit : Result Fit Unfit → Told Tells
+told_fit (Ok f) =
     answered (record { cal = f.cal; mean = f.mean; max = f.max; before = f.before; verdict = judged f.verdict; place = place 0 })
-told_fit (Refused r) = refused r (unmeasured (place 0))
-told_fit (Steep p) = refused Refusal.Steep (unmeasured p)
+told_fit (Err (Refused r)) = refused r (unmeasured (place 0))
+told_fit (Err (Steep p)) = refused Refusal.Steep (unmeasured p)

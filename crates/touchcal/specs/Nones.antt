@@ -2,8 +2,8 @@
 --
 -- Document 02, [2]: "Where the Rust says `None`, exactly one of these is said." Its three ways, in its order: `if n < 3`;
 -- `if !(det > 1e-3 * sxx * syy) || sxx < 1.0 || syy < 1.0`; and one of the six `q16(..)?`, "which of the six came first in order
--- a to f". Nothing here says what our `fit` does: proofs/Unfit.antt holds it to this.
-use Rattle.std.specs.Prelude.{◌≡◌, ℕ, suc, ◌+◌, Bool, true, false, not, List, [], ◌∷◌, length, Float}
+-- a to f". Nothing here says what our `fit` does: proofs/Nones.antt holds it to this.
+use Rattle.std.specs.Prelude.{◌≡◌, ℕ, suc, ◌+◌, Bool, true, false, not, List, [], ◌∷◌, length, Float, Result, Ok, Err}
 use Rattle.panel.specs.Tests.{◌and◌, ◌or◌, ◌<?◌, ◌=?◌}
 use Rattle.panel.specs.Points.{all_on_panel}
 use Rattle.panel.specs.declared.points.Point.{Point}
@@ -14,18 +14,18 @@ use Rattle.touchcal.specs.Sizes.{thin32, least_sum32, fewest}
 use Rattle.touchcal.specs.Floats.{in_reach, q16_of}
 use Rattle.touchcal.specs.Moments.{moments_of}
 use Rattle.touchcal.specs.Solutions.{det_of, coefs_of, deltas_of, in_order}
-use Rattle.touchcal.specs.declared.floats.Q16Answer.{Q16Answer}
-use Rattle.touchcal.specs.declared.floats.Q16Answer.TheVariants.{Answered, Refused}
 use Rattle.touchcal.specs.declared.moments.Sums.{Sums}
+use Rattle.panel.specs.declared.refusals.Refusal.{Refusal}
+use Rattle.calmap.specs.declared.units.Q16.{Q16}
 
 -- `!(det > 1e-3 * sxx * syy) || sxx < 1.0 || syy < 1.0`: a NaN in the first test is true here
 abbrev pub rust_line : Sums → Bool
 rust_line s = not (thin32 ⊗ s.sxx ⊗ s.syy ⊲ det_of s) or s.sxx ⊲ least_sum32 or s.syy ⊲ least_sum32
 
 -- `q16(..)?` ends the call
-abbrev pub ends : Q16Answer → Bool
-ends (Answered q) = false
-ends (Refused r) = true
+abbrev pub ends : Result Q16 Refusal → Bool
+ends (Ok q) = false
+ends (Err r) = true
 
 abbrev pub rust_steep : List Float → Bool
 rust_steep [] = false

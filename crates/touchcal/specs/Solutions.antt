@@ -3,7 +3,7 @@
 -- "`fit`: the Rust's operations in its order, each rounded once .. 1e-3 is bits 3A83126F." Document 02, [2]: "NOFIT divides:
 -- fewer than three pairs, the spread test failing (line, or either sum under 1), a coefficient beyond `q16`, and for that one,
 -- which of the six came first in order a to f. Where the Rust says `None`, exactly one of these is said."
-use Rattle.std.specs.Prelude.{ℕ, suc, Bool, not, List, [], ◌∷◌, length, Float}
+use Rattle.std.specs.Prelude.{ℕ, suc, Bool, not, List, [], ◌∷◌, length, Float, Result, Ok, Err}
 use Rattle.panel.specs.Tests.{when◌then◌else◌, ◌and◌, ◌<?◌}
 use Rattle.calmap.specs.declared.units.Aim.{Aim}
 use Rattle.touchcal.specs.Binary32.{◌⊖◌, ◌⊗◌, ◌⊘◌, ◌⊲◌}
@@ -11,15 +11,14 @@ use Rattle.touchcal.specs.Sizes.{one32, thin32, least_sum32, fewest}
 use Rattle.touchcal.specs.Floats.{q16_of, steps_of}
 use Rattle.touchcal.specs.Moments.{moments_of}
 use Rattle.touchcal.specs.declared.floats.Coefs.{Coefs}
-use Rattle.touchcal.specs.declared.floats.CalAnswer.{CalAnswer}
-use Rattle.touchcal.specs.declared.floats.Q16Answer.{Q16Answer}
 use Rattle.touchcal.specs.declared.floats.CoefPlace.{CoefPlace}
-use Rattle.touchcal.specs.declared.floats.Steps.{Steps}
-use Rattle.touchcal.specs.declared.floats.Steps.TheVariants.{Are, Beyond}
 use Rattle.touchcal.specs.declared.moments.Sums.{Sums}
 use Rattle.touchcal.specs.declared.moments.Moments.{Moments}
-use Rattle.touchcal.specs.declared.solving.Solved.{Solved}
-use Rattle.touchcal.specs.declared.solving.Solved.TheVariants.{Is, Few, Line, Steep}
+use Rattle.touchcal.specs.declared.solving.Unsolved.{Unsolved}
+use Rattle.touchcal.specs.declared.solving.Unsolved.TheVariants.{Few, Line, Steep}
+use Rattle.calmap.specs.declared.units.Cal.{Cal}
+use Rattle.panel.specs.declared.refusals.Refusal.{Refusal}
+use Rattle.calmap.specs.declared.units.Q16.{Q16}
 
 unfoldable pub det_of : Sums → Float
 det_of s = s.sxx ⊗ s.syy ⊖ s.sxy ⊗ s.sxy
@@ -53,9 +52,9 @@ unfoldable pub deltas_of : Coefs → Coefs
 deltas_of v = record { a = v.a ⊖ one32; b = v.b; c = v.c; d = v.d; e = v.e ⊖ one32; f = v.f }
 
 -- "which of the six came first in order a to f": how many `q16` takes before the first that it refuses
-abbrev pub passing : Q16Answer → ℕ → ℕ
-passing (Q16Answer.Answered q) n = suc n
-passing (Q16Answer.Refused r) n = 0
+abbrev pub passing : Result Q16 Refusal → ℕ → ℕ
+passing (Ok q) n = suc n
+passing (Err r) n = 0
 
 unfoldable pub first_refused : List Float → ℕ
 first_refused [] = 0
@@ -68,21 +67,21 @@ in_order v = v.a ∷ v.b ∷ v.c ∷ v.d ∷ v.e ∷ v.f ∷ []
 abbrev pub place : ℕ → CoefPlace
 place k = record { 0 = k }
 
-abbrev pub or_place : CalAnswer → CoefPlace → Steps
-or_place (CalAnswer.Answered c) p = Are c
-or_place (CalAnswer.Refused r) p = Beyond p
+abbrev pub or_place : {A : Type 0} → Result A Refusal → CoefPlace → Result A CoefPlace
+or_place (Ok c) p = Ok c
+or_place (Err r) p = Err p
 
 -- differences from the identity in steps, or the place of the first that has none
-unfoldable pub stepped_of : Coefs → Steps
+unfoldable pub stepped_of : Coefs → Result Cal CoefPlace
 stepped_of v = or_place (steps_of v) (place (first_refused (in_order v)))
 
-abbrev pub of_steps : Steps → Solved
-of_steps (Are c) = Is c
-of_steps (Beyond p) = Steep p
+abbrev pub of_steps : Result Cal CoefPlace → Result Cal Unsolved
+of_steps (Ok c) = Ok c
+of_steps (Err p) = Err (Steep p)
 
-unfoldable pub solved_of : List Aim → Solved
+unfoldable pub solved_of : List Aim → Result Cal Unsolved
 solved_of ps =
     let w = moments_of ps in
-    when length ps <? fewest then Few
+    when length ps <? fewest then Err Few
     else when spreads w.sums then of_steps (stepped_of (deltas_of (coefs_of w)))
-    else Line
+    else Err Line

@@ -2,13 +2,14 @@
 // and how far they were without it, and the verdict.
 ghost use Rattle.std.specs.Prelude.{◌≡◌};
 ghost use Rattle.calmap.specs.Units.{over};
-ghost use Rattle.touchcal.specs.Fits.{judged_by, fit_with, weighed};
-ghost use Rattle.touchcal.specs.code.Arrays.{cal_or_identity, fit_first, fit_held};
+ghost use Rattle.touchcal.specs.Fits.{judged_by, fit_with, unfit_of, weighed};
+ghost use Rattle.touchcal.specs.code.Arrays.{cal_or_identity, fit_first, fit_first_by, fit_held};
+ghost use Rattle.touchcal.specs.declared.fitting.Unfit.TheVariants.{Refused};
 
 use crate::floats::CoefPlace;
-use crate::solving::Solved;
+use crate::solving::Unsolved;
 use crate::{floats, solving};
-use calmap::{Aim, Aims, Cal, CheckAnswer, MAX_TAPS, Points, ResidAnswer, Spread, Tenths, Verdict};
+use calmap::{Aim, Cal, Held, MAX_TAPS, Rule, Scaled, Spread, Tenths, Verdict};
 use panel::{Point, Refusal};
 
 // The largest residual of an accepted fit.
@@ -25,19 +26,38 @@ pub struct Fit {
     pub verdict: Verdict,
 }
 
-// STEEP alone carries a value, and so it stands by itself: `Refused` never says it.
-#[derive(Clone, Copy)]
-pub enum FitAnswer {
-    Answered(Fit),
+// Why there is no fit. STEEP alone carries a value, and so it stands by itself: `Refused` never says it.
+#[derive(Clone, Copy, Debug, PartialEq, Eq)]
+pub enum Unfit {
     Refused(Refusal),
     Steep(CoefPlace),
+}
+
+impl From<Refusal> for Unfit {
+    ghost from_gives = { λ why r. r ≡ Refused why };
+
+    fn from(why: Refusal) -> Unfit {
+        Unfit::Refused(why)
+    }
+}
+
+impl From<Unsolved> for Unfit {
+    ghost from_gives = { λ why r. r ≡ unfit_of why };
+
+    fn from(why: Unsolved) -> Unfit {
+        match why {
+            Unsolved::Few => Unfit::Refused(Refusal::Few),
+            Unsolved::Line => Unfit::Refused(Refusal::Line),
+            Unsolved::Steep(p) => Unfit::Steep(p),
+        }
+    }
 }
 
 // Whether a distance is over a limit.
 fn is_over(limit: Tenths, d: Tenths) -> bool
     ensures { result ≡ over limit d }
 {
-    limit.0 < d.0
+    limit < d
 }
 
 // The verdict of check, and then that of the largest residual.
@@ -45,15 +65,8 @@ fn judged_by(v: Verdict, max: Tenths) -> Verdict
     ensures { result ≡ judged_by v max }
 {
     match v {
-        Verdict::Pass => {
-            if is_over(MAX_RESID, max) {
-                return Verdict::Resid;
-            }
-            Verdict::Pass
-        }
-        Verdict::Scale => Verdict::Scale,
-        Verdict::Shift => Verdict::Shift,
-        Verdict::Resid => Verdict::Resid,
+        Verdict::Pass if is_over(MAX_RESID, max) => Verdict::Resid,
+        _ => v,
     }
 }
 
@@ -61,83 +74,76 @@ fn judged_by(v: Verdict, max: Tenths) -> Verdict
 fn fit_with(c: Cal, after: Spread, before: Spread, v: Verdict) -> Fit
     ensures { result ≡ fit_with c after before v }
 {
-    let mean = after.mean;
-    let max = after.max;
-    let before = before.mean;
     Fit {
         cal: c,
-        mean,
-        max,
-        before,
-        verdict: judged_by(v, max),
+        mean: after.mean,
+        max: after.max,
+        before: before.mean,
+        verdict: judged_by(v, after.max),
     }
 }
 
 // The same, where none of them is refused.
-pub fn weigh(c: Cal, after: ResidAnswer, before: ResidAnswer, check: CheckAnswer) -> FitAnswer
+pub fn weigh(
+    c: Cal,
+    after: Result<Spread, Refusal>,
+    before: Result<Spread, Refusal>,
+    check: Result<Verdict, Refusal>,
+) -> Result<Fit, Unfit>
     ensures { result ≡ weighed c after before check }
 {
-    match after {
-        ResidAnswer::Answered(s) => match before {
-            ResidAnswer::Answered(s0) => match check {
-                CheckAnswer::Answered(v) => FitAnswer::Answered(fit_with(c, s, s0, v)),
-                CheckAnswer::Refused(r) => FitAnswer::Refused(r),
-            },
-            ResidAnswer::Refused(r) => FitAnswer::Refused(r),
-        },
-        ResidAnswer::Refused(r) => FitAnswer::Refused(r),
-    }
+    Ok(fit_with(c, after?, before?, check?))
 }
 
 // The calibration that was found, or none at all.
-fn cal_or_identity(s: Solved) -> Cal
+fn cal_or_identity(s: Result<Cal, Unsolved>) -> Cal
     ensures { result ≡ cal_or_identity s }
 {
-    match s {
-        Solved::Is(c) => c,
-        Solved::Few => floats::no_cal(),
-        Solved::Line => floats::no_cal(),
-        Solved::Steep(_) => floats::no_cal(),
-    }
+    s.unwrap_or(floats::no_cal())
 }
 
-// The fit of the first n pairs, judged over the first m targets. What check refuses it refuses for any
-// calibration, so that it is asked once, before anything else is refused, whether one was found or not.
-pub fn fit_of(pairs: [Aim; MAX_TAPS], n: usize, targets: [Point; MAX_TAPS], m: usize) -> FitAnswer
+// The fit of the first n pairs, judged over the first m targets, and measured by a rule of tenths. What check refuses
+// it refuses for any calibration, so that it is asked once, before anything else is refused, whether one was found or
+// not. Arrays by value, each with its count: document 01's form of the core, for which module lists takes lent lists
+// apart.
+pub fn fit_by<R: Rule>(
+    pairs: [Aim; MAX_TAPS],
+    n: usize,
+    targets: [Point; MAX_TAPS],
+    m: usize,
+) -> Result<Fit, Unfit>
+    ensures { result ≡ fit_first_by R.tenths n pairs m targets }
+{
+    if MAX_TAPS < n {
+        return Err(Unfit::Refused(Refusal::Long));
+    }
+    let solved = solving::solve(&pairs[..n]);
+    let verdict = calmap::check_of(cal_or_identity(solved), targets, m)?;
+    let c = solved?;
+    let none = floats::no_cal();
+    let after = calmap::resid_by::<R>(c, pairs, n);
+    let before = calmap::resid_by::<R>(none, pairs, n);
+    weigh(c, after, before, Ok(verdict))
+}
+
+// The same by the rule of the calls.
+pub fn fit_of(
+    pairs: [Aim; MAX_TAPS],
+    n: usize,
+    targets: [Point; MAX_TAPS],
+    m: usize,
+) -> Result<Fit, Unfit>
     ensures { result ≡ fit_first n pairs m targets }
 {
-    let none = floats::no_cal();
-    if MAX_TAPS < n {
-        return FitAnswer::Refused(Refusal::Long);
-    }
-    let s = solving::solve(pairs, n);
-    let check = calmap::check_of(cal_or_identity(s), targets, m);
-    if let CheckAnswer::Refused(r) = check {
-        return FitAnswer::Refused(r);
-    }
-    match s {
-        Solved::Is(c) => {
-            let after = calmap::resid_of(c, pairs, n);
-            let before = calmap::resid_of(none, pairs, n);
-            weigh(c, after, before, check)
-        }
-        Solved::Few => FitAnswer::Refused(Refusal::Few),
-        Solved::Line => FitAnswer::Refused(Refusal::Line),
-        Solved::Steep(p) => FitAnswer::Steep(p),
-    }
+    fit_by::<Scaled>(pairs, n, targets, m)
 }
 
 // The fit of what is held of lent lists.
-pub fn fit_held(a: Aims, t: Points) -> FitAnswer
+pub fn fit_held(a: Held<Aim>, t: Held<Point>) -> Result<Fit, Unfit>
     ensures { result ≡ fit_held a t }
 {
-    let pairs = a.list;
-    let targets = t.list;
-    if a.long {
-        return FitAnswer::Refused(Refusal::Long);
+    if a.long || t.long {
+        return Err(Unfit::Refused(Refusal::Long));
     }
-    if t.long {
-        return FitAnswer::Refused(Refusal::Long);
-    }
-    fit_of(pairs, a.n, targets, t.n)
+    fit_of(a.list, a.n, t.list, t.n)
 }

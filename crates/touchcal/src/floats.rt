@@ -5,7 +5,7 @@ ghost use Rattle.std.specs.Float.Ieee.{lt, le};
 ghost use Rattle.touchcal.specs.Binary32.{cut};
 ghost use Rattle.touchcal.specs.Sizes.{half32, least32, most32};
 ghost use Rattle.touchcal.specs.Floats.{half_away, q16_of, out_of, off_identity, to_f32_of, from_f32_of, identity};
-ghost use Rattle.touchcal.specs.Solutions.{stepped_of};
+ghost use Rattle.touchcal.specs.Solutions.{or_place, stepped_of};
 
 use calmap::{Cal, Q16};
 use panel::Refusal;
@@ -19,20 +19,6 @@ const TOO_MANY: f32 = 2.0e9;
 // The first of a float's 24 digits, by its weight.
 const FIRST: u32 = 8388608;
 
-// What q16 answers.
-#[derive(Clone, Copy)]
-pub enum Q16Answer {
-    Answered(Q16),
-    Refused(Refusal),
-}
-
-// What from_f32 answers.
-#[derive(Clone, Copy)]
-pub enum CalAnswer {
-    Answered(Cal),
-    Refused(Refusal),
-}
-
 // The coefficients as numbers: x' = a x + b y + c, y' = d x + e y + f.
 #[derive(Clone, Copy)]
 pub struct Coefs {
@@ -44,16 +30,10 @@ pub struct Coefs {
     pub f: f32,
 }
 
-// The place of a coefficient: 0 for a to 5 for f, as c0 to c5 are counted.
-#[derive(Clone, Copy)]
+// The place of a coefficient: 0 for a to 5 for f, as c0 to c5 are counted. A number and no enum: STEEP tells it as its
+// value (document 02).
+#[derive(Clone, Copy, Debug, PartialEq, Eq)]
 pub struct CoefPlace(pub u8);
-
-// Six coefficients in steps, or the first of them, a to f, that has none.
-#[derive(Clone, Copy)]
-pub(crate) enum Steps {
-    Are(Cal),
-    Beyond(CoefPlace),
-}
 
 // t without its fraction, from its bits: t is `digits`·2^(exponent - 150), of 24 digits, the first of which the bits
 // leave out. From a half to TOO_MANY the exponent is 126 to 157, so that with eight places more, 256, the shift is
@@ -65,31 +45,31 @@ fn whole(t: f32) -> u64
     let bits = f32::to_bits(t);
     let exponent = bits / FIRST;
     let digits = FIRST + bits % FIRST;
-    ((digits * 256) as u64) >> (158 - exponent)
+    u64::from(digits * 256) >> (158 - exponent)
 }
 
-// s and a half, away from 0, without its fraction. Rounding does not look at the sign, so that -s gives the same below 0.
+// s and a half, away from 0, without its fraction. Rounding does not look at the sign, so that -s gives the same below
+// 0.
 fn nearest(s: f32) -> i32
     requires { T (lt least32 s) × T (lt s most32) }
     ensures { result ≡ cut (half_away s) }
 {
     if s < 0.0 {
-        return -(whole(-s + 0.5) as i32);
+        -(whole(-s + 0.5) as i32)
+    } else {
+        whole(s + 0.5) as i32
     }
-    whole(s + 0.5) as i32
 }
 
 // v in steps, to the nearest. NaN and what is too large are refused, so that the cut is always within i32.
-pub fn q16(v: f32) -> Q16Answer
+pub fn q16(v: f32) -> Result<Q16, Refusal>
     ensures { result ≡ q16_of v }
 {
     let s = v * ONE;
-    if s > -TOO_MANY {
-        if s < TOO_MANY {
-            return Q16Answer::Answered(Q16(nearest(s)));
-        }
+    if s > -TOO_MANY && s < TOO_MANY {
+        return Ok(Q16(nearest(s)));
     }
-    Q16Answer::Refused(Refusal::Huge)
+    Err(Refusal::Huge)
 }
 
 // One coefficient as a number: its steps, and what the identity has in its place.
@@ -113,39 +93,29 @@ pub fn to_f32(c: Cal) -> Coefs
     }
 }
 
-// Differences from the identity in steps, unless one of them is too large.
-pub(crate) fn in_steps(v: Coefs) -> Steps
+// A coefficient in steps, to the nearest, or its place where it is too large.
+fn stepped(v: f32, place: CoefPlace) -> Result<Q16, CoefPlace>
+    ensures { result ≡ or_place (q16_of v) place }
+{
+    q16(v).map_err(|_| place)
+}
+
+// Differences from the identity in steps, unless one of them is too large: then the place of the first that is.
+pub(crate) fn in_steps(v: Coefs) -> Result<Cal, CoefPlace>
     ensures { result ≡ stepped_of v }
 {
-    let Q16Answer::Answered(c0) = q16(v.a) else {
-        return Steps::Beyond(CoefPlace(0));
-    };
-    let Q16Answer::Answered(c1) = q16(v.b) else {
-        return Steps::Beyond(CoefPlace(1));
-    };
-    let Q16Answer::Answered(c2) = q16(v.c) else {
-        return Steps::Beyond(CoefPlace(2));
-    };
-    let Q16Answer::Answered(c3) = q16(v.d) else {
-        return Steps::Beyond(CoefPlace(3));
-    };
-    let Q16Answer::Answered(c4) = q16(v.e) else {
-        return Steps::Beyond(CoefPlace(4));
-    };
-    let Q16Answer::Answered(c5) = q16(v.f) else {
-        return Steps::Beyond(CoefPlace(5));
-    };
-    Steps::Are(Cal {
-        c0,
-        c1,
-        c2,
-        c3,
-        c4,
-        c5,
+    Ok(Cal {
+        c0: stepped(v.a, CoefPlace(0))?,
+        c1: stepped(v.b, CoefPlace(1))?,
+        c2: stepped(v.c, CoefPlace(2))?,
+        c3: stepped(v.d, CoefPlace(3))?,
+        c4: stepped(v.e, CoefPlace(4))?,
+        c5: stepped(v.f, CoefPlace(5))?,
     })
 }
 
-// What is left of the coefficients when the identity is taken off.
+// What is left of the coefficients when the identity is taken off. Beside `deltas` of solving, since each is the Rust's
+// operations and has its definition: from_f32 takes 0.0 off too, the fit does not.
 fn off_identity(v: Coefs) -> Coefs
     ensures { result ≡ off_identity v }
 {
@@ -160,16 +130,13 @@ fn off_identity(v: Coefs) -> Coefs
 }
 
 // The calibration that has these coefficients, NaN and too large ones refused.
-pub fn from_f32(v: Coefs) -> CalAnswer
+pub fn from_f32(v: Coefs) -> Result<Cal, Refusal>
     ensures { result ≡ from_f32_of v }
 {
-    match in_steps(off_identity(v)) {
-        Steps::Are(c) => CalAnswer::Answered(c),
-        Steps::Beyond(_) => CalAnswer::Refused(Refusal::Huge),
-    }
+    in_steps(off_identity(v)).map_err(|_| Refusal::Huge)
 }
 
-// No calibration: the identity.
+// No calibration: the identity, by a name, as the definition `identity` has one.
 pub fn no_cal() -> Cal
     ensures { result ≡ identity }
 {

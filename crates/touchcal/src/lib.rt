@@ -10,7 +10,7 @@ mod moments;
 mod scpi;
 mod solving;
 
-pub use fitting::{Fit, FitAnswer, fit_held, fit_of, weigh};
-pub use floats::{CalAnswer, CoefPlace, Coefs, Q16Answer, from_f32, no_cal, q16, to_f32};
+pub use fitting::{Fit, Unfit, fit_by, fit_held, fit_of, weigh};
+pub use floats::{CoefPlace, Coefs, from_f32, no_cal, q16, to_f32};
 pub use lists::fit;
-pub use scpi::{Pending, PutAnswer, TakeAnswer, cleared, scpi_put, scpi_take};
+pub use scpi::{scpi_put, scpi_take};

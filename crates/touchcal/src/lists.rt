@@ -4,16 +4,14 @@ ghost use Rattle.calmap.specs.Resids.{pairs_of};
 ghost use Rattle.touchcal.specs.Fits.{fit_of};
 
 use crate::fitting;
-use crate::fitting::FitAnswer;
+use crate::fitting::{Fit, Unfit};
 use calmap::Tap;
 use panel::Point;
 
 // The least-squares fit of raw taps to their targets, as many as the shorter list has, judged over
 // the check points.
-pub fn fit(raw: &[Tap], tgt: &[Tap], targets: &[Point]) -> FitAnswer
+pub fn fit(raw: &[Tap], tgt: &[Tap], targets: &[Point]) -> Result<Fit, Unfit>
     ensures { result ≡ fit_of (pairs_of raw.now tgt.now) targets.now }
 {
-    let a = calmap::pairs_of(raw, tgt);
-    let t = calmap::points_of(targets);
-    fitting::fit_held(a, t)
+    fitting::fit_held(calmap::pairs_of(raw, tgt), calmap::points_of(targets))
 }

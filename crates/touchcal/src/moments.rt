@@ -1,10 +1,10 @@
 // The four means and the seven sums of the least squares, gathered over the pairs in two passes. Each
 // operation rounds once, so that the order of the pairs counts.
-ghost use Rattle.std.specs.Prelude.{◌≡◌, ◌≤◌, take};
+ghost use Rattle.std.specs.Prelude.{◌≡◌, ◌≤◌, length};
 ghost use Rattle.calmap.specs.Sizes.{longest};
 ghost use Rattle.touchcal.specs.Moments.{place_of, add_pair, totals_of, shared_of, add_about, sums_of, moments_of};
 
-use calmap::{Aim, MAX_TAPS, Tap};
+use calmap::{Aim, Tap};
 
 // A tap in floats.
 #[derive(Clone, Copy)]
@@ -45,8 +45,8 @@ fn place_of(t: Tap) -> Place
     ensures { result ≡ place_of t }
 {
     Place {
-        x: t.x as f32,
-        y: t.y as f32,
+        x: f32::from(t.x),
+        y: f32::from(t.y),
     }
 }
 
@@ -64,10 +64,9 @@ fn add_pair(t: Means, p: Aim) -> Means
     }
 }
 
-// The coordinates of the first n pairs, added up.
-fn totals(pairs: [Aim; MAX_TAPS], n: usize) -> Means
-    requires { n ≤ longest }
-    ensures { result ≡ totals_of (take n pairs) }
+// The coordinates of the pairs, added up.
+fn totals(pairs: &[Aim]) -> Means
+    ensures { result ≡ totals_of pairs.now }
 {
     let mut t = Means {
         mx: 0.0,
@@ -75,16 +74,14 @@ fn totals(pairs: [Aim; MAX_TAPS], n: usize) -> Means
         mu: 0.0,
         mv: 0.0,
     };
-    let mut i = 0;
-    while i < n {
-        let p = pairs[i];
-        t = add_pair(t, p);
-        i += 1;
+    for p in pairs {
+        t = add_pair(t, *p);
     }
     t
 }
 
-// The totals shared out among n.
+// The totals shared out among n. That n is at most 64 is handed down to here and to `moments_of` from fit_by, which
+// tests it; up to there `n as f32` is exact.
 fn shared(t: Means, n: usize) -> Means
     requires { n ≤ longest }
     ensures { result ≡ shared_of t n }
@@ -119,10 +116,9 @@ fn add_about(m: Means, s: Sums, p: Aim) -> Sums
     }
 }
 
-// The products of the first n pairs about the means, added up.
-fn sums_about(pairs: [Aim; MAX_TAPS], n: usize, m: Means) -> Sums
-    requires { n ≤ longest }
-    ensures { result ≡ sums_of m (take n pairs) }
+// The products of the pairs about the means, added up.
+fn sums_about(pairs: &[Aim], m: Means) -> Sums
+    ensures { result ≡ sums_of m pairs.now }
 {
     let mut s = Sums {
         sxx: 0.0,
@@ -133,21 +129,20 @@ fn sums_about(pairs: [Aim; MAX_TAPS], n: usize, m: Means) -> Sums
         sxv: 0.0,
         syv: 0.0,
     };
-    let mut i = 0;
-    while i < n {
-        let p = pairs[i];
-        s = add_about(m, s, p);
-        i += 1;
+    for p in pairs {
+        s = add_about(m, s, *p);
     }
     s
 }
 
-// The means and the sums of the first n pairs.
-pub(crate) fn moments_of(pairs: [Aim; MAX_TAPS], n: usize) -> Moments
-    requires { n ≤ longest }
-    ensures { result ≡ moments_of (take n pairs) }
+// The means and the sums of the pairs.
+pub(crate) fn moments_of(pairs: &[Aim]) -> Moments
+    requires { length pairs.now ≤ longest }
+    ensures { result ≡ moments_of pairs.now }
 {
-    let means = shared(totals(pairs, n), n);
-    let sums = sums_about(pairs, n, means);
-    Moments { means, sums }
+    let means = shared(totals(pairs), pairs.len());
+    Moments {
+        means,
+        sums: sums_about(pairs, means),
+    }
 }

@@ -1,12 +1,12 @@
 // The least squares' solution: the affine map nearest to the pairs, in f32, and then in steps.
-ghost use Rattle.std.specs.Prelude.{◌≡◌, ◌≤◌, take};
+ghost use Rattle.std.specs.Prelude.{◌≡◌, ◌≤◌, length};
 ghost use Rattle.calmap.specs.Sizes.{longest};
 ghost use Rattle.touchcal.specs.Solutions.{det_of, spreads, coefs_of, deltas_of, solved_of};
 
-use crate::floats::{CoefPlace, Coefs, Steps};
+use crate::floats::{CoefPlace, Coefs};
 use crate::moments::{Moments, Sums};
 use crate::{floats, moments};
-use calmap::{Aim, Cal, MAX_TAPS};
+use calmap::{Aim, Cal};
 
 // The fewest pairs that have an affine map.
 const FEWEST: usize = 3;
@@ -17,10 +17,9 @@ const THIN: f32 = 1e-3;
 // Raw taps whose squares along x or along y add up to less than this are in one place there.
 const LEAST: f32 = 1.0;
 
-// What pairs come to: a calibration, or why they have none.
-#[derive(Clone, Copy)]
-pub enum Solved {
-    Is(Cal),
+// Why pairs come to no calibration.
+#[derive(Clone, Copy, Debug, PartialEq, Eq)]
+pub enum Unsolved {
     // Fewer than three pairs.
     Few,
     // The raw taps are on one line, or nearly so, or too close together.
@@ -41,16 +40,7 @@ fn is_spread(s: Sums) -> bool
     ensures { result ≡ spreads s }
 {
     let thin = THIN * s.sxx * s.syy;
-    if det(s) > thin {
-        if s.sxx < LEAST {
-            return false;
-        }
-        if s.syy < LEAST {
-            return false;
-        }
-        return true;
-    }
-    false
+    det(s) > thin && !(s.sxx < LEAST) && !(s.syy < LEAST)
 }
 
 // The coefficients of the map.
@@ -69,35 +59,28 @@ fn plane(w: Moments) -> Coefs
     Coefs { a, b, c, d, e, f }
 }
 
-// Their differences from the identity.
+// Their differences from the identity. Beside `off_identity` of floats, as that comment says.
 fn deltas(v: Coefs) -> Coefs
     ensures { result ≡ deltas_of v }
 {
     Coefs {
         a: v.a - 1.0,
-        b: v.b,
-        c: v.c,
-        d: v.d,
         e: v.e - 1.0,
-        f: v.f,
+        ..v
     }
 }
 
-// The calibration nearest to the first n pairs, or why there is none.
-pub(crate) fn solve(pairs: [Aim; MAX_TAPS], n: usize) -> Solved
-    requires { n ≤ longest }
-    ensures { result ≡ solved_of (take n pairs) }
+// The calibration nearest to the pairs, or why there is none.
+pub(crate) fn solve(pairs: &[Aim]) -> Result<Cal, Unsolved>
+    requires { length pairs.now ≤ longest }
+    ensures { result ≡ solved_of pairs.now }
 {
-    if n < FEWEST {
-        return Solved::Few;
+    if pairs.len() < FEWEST {
+        return Err(Unsolved::Few);
     }
-    let w = moments::moments_of(pairs, n);
-    if is_spread(w.sums) {
-        match floats::in_steps(deltas(plane(w))) {
-            Steps::Are(c) => Solved::Is(c),
-            Steps::Beyond(p) => Solved::Steep(p),
-        }
-    } else {
-        Solved::Line
+    let w = moments::moments_of(pairs);
+    if !is_spread(w.sums) {
+        return Err(Unsolved::Line);
     }
+    floats::in_steps(deltas(plane(w))).map_err(Unsolved::Steep)
 }

@@ -7,7 +7,7 @@ use Rattle.panel.specs.Points.{fingers}
 use Rattle.panel.specs.Tests.{when◌then◌else◌, ◌and◌}
 use Rattle.panel.specs.declared.points.Point.{Point}
 use Rattle.gesture.specs.Calls.{Call, report, tick}
-use Rattle.numbers.specs.Numbers.{groups_in, value_of, ends_in_zero, needless, number_at, number_from}
+use Rattle.numbers.specs.Numbers.{groups_in, value_of, ends_in_zero, needless, number_at}
 use Rattle.trace.specs.Records.{nowhere, points_from, event_of, report_from, tick_from, of_kind, record_at}
 use Rattle.trace.specs.Traces.{ends, records_from, head_of, trace_in}
 
@@ -31,5 +31,5 @@ abbrev two : ℕ → Point → Point → Call
 two now p q = report now (record { points = 2; p = p; pts = p ∷ q ∷ nowhere ∷ nowhere ∷ nowhere ∷ []; keys = 0 })
 
 pub document-trace : trace_in bytes ≡ record { calls = one 0 (at 100 50) ∷ one 10 (at 115 50) ∷ one 20 (at 116 50) ∷ two 30 (at 116 50) (at 176 50) ∷ tick 1000 ∷ none 1010 ∷ one 1309 (at 100 50) ∷ none 1310 ∷ one 1310 (at 100 50) ∷ none 1400 ∷ []; ending = ends }
-unfolding trace_in head_of records_from record_at of_kind report_from tick_from points_from event_of number_from number_at groups_in value_of ends_in_zero needless when◌then◌else◌ ◌and◌ fingers
+unfolding trace_in head_of records_from record_at of_kind report_from tick_from points_from event_of number_at groups_in value_of ends_in_zero needless when◌then◌else◌ ◌and◌ fingers
 document-trace = refl

@@ -1,5 +1,5 @@
 -- The numbers of a record as the code gathers them. Assumes nothing.
-use Prim.Native.Nat.{ℕ, zero, suc, ◌+◌, ◌*◌, ◌≤◌, ◌<◌}
+use Prim.Native.Nat.{ℕ, suc, ◌+◌, ◌*◌, ◌<◌}
 use mathlib.Core.Path.{◌≡◌, refl, sym, ap, ◌∙◌}
 use mathlib.Core.List.{List, [], ◌∷◌, ◌++◌, append_assoc}
 use native.Mathlib.Omega.{arith}
@@ -10,42 +10,22 @@ use borrow.Author.Tests.{eq-eqb}
 use Rattle.panel.proofs.Follow.{if-true}
 use Rattle.panel.specs.Points.{fingers}
 use Rattle.panel.specs.Tests.{when◌then◌else◌, ◌=?◌}
-use Rattle.panel.specs.declared.points.Event.{Event}
 use Rattle.panel.specs.declared.points.Point.{Point}
-use Rattle.gesture.specs.Answers.{points_in_use}
-use Rattle.gesture.specs.Calls.{report}
-use Rattle.trace.specs.Calls.{coordinates, numbers_of}
+use Rattle.trace.specs.Calls.{coordinates}
 use Rattle.trace.specs.Records.{nowhere}
 use Rattle.trace.specs.Sizes.{kind_report}
 use Rattle.trace.specs.code.Sizes.{most_numbers}
-
-pub short-law : (n k v : ℕ) (l : List ℕ) → n ≤ 2 → take n (k ∷ v ∷ l) ≡ take n (k ∷ v ∷ [])
-short-law zero k v l h = refl
-short-law (suc zero) k v l h = refl
-short-law (suc (suc zero)) k v l h = refl
-short-law (suc (suc (suc n))) k v l h = absurd (omega arith)
 
 -- The points in use.
 one-finger : fingers 1 ≡ 1
 unfolding fingers
 one-finger = refl
 
-front : (pts : List Point) (p : Point) → 0 < length pts → take 1 (set pts 0 p) ≡ p ∷ []
-front [] p h = absurd (omega arith)
-front (q ∷ pts) p h = refl
+-- of a list with p in front
+pub one-used : (count : ℕ) (p : Point) (ps pts : List Point) → count ≡ 1 → take (fingers count) (p ∷ ps) ≡ when◌then◌else◌ (count =? 1) (p ∷ []) (take (fingers count) pts)
+one-used count p ps pts one = ap (λ (k : ℕ). take k (p ∷ ps)) (ap fingers one ∙ one-finger) ∙ sym (if-true _ _ _ (eq-eqb count 1 one))
 
-pub one-used : (count : ℕ) (p : Point) (pts : List Point) → count ≡ 1 → 0 < length pts → take (fingers count) (set pts 0 p) ≡ when◌then◌else◌ (count =? 1) (p ∷ []) (take (fingers count) pts)
-one-used count p pts one some =
-    ap (λ (k : ℕ). take k (set pts 0 p)) (ap fingers one ∙ one-finger)
-    ∙ front pts p some
-    ∙ sym (if-true _ _ _ (eq-eqb count 1 one))
-
-pub report-law : (time : ℕ) (e : Event) (ps : List Point) → ps ≡ when◌then◌else◌ (e.points =? 1) (e.p ∷ []) (take (fingers e.points) e.pts) →
-    kind_report ∷ time ∷ e.keys ∷ e.points ∷ coordinates ps ≡ numbers_of (report time e)
-unfolding numbers_of points_in_use
-report-law time e ps used = ap (λ (l : List Point). kind_report ∷ time ∷ e.keys ∷ e.points ∷ coordinates l) used
-
--- The loop: so many numbers are in place, those of the points before the i-th the last of them.
+-- The loop: the numbers of the points before the i-th are in place, behind the head.
 coordinates-join : (ps qs : List Point) → coordinates (ps ++ qs) ≡ coordinates ps ++ coordinates qs
 unfolding coordinates
 coordinates-join [] qs = refl
@@ -55,10 +35,9 @@ coordinates-one : (p : Point) → coordinates (p ∷ []) ≡ p.x ∷ p.y ∷ []
 unfolding coordinates
 coordinates-one p = refl
 
-pub record Gathering (head : List ℕ) (pts : List Point) (v : List ℕ) (n i : ℕ) : Type 0 where
-  pub many : n ≡ 4 + 2 * i
+pub record Gathering (head : List ℕ) (pts : List Point) (v : List ℕ) (i : ℕ) : Type 0 where
   pub all : length v ≡ most_numbers
-  pub front : take n v ≡ head ++ coordinates (take i pts)
+  pub front : take (4 + 2 * i) v ≡ head ++ coordinates (take i pts)
 
 -- two numbers more, behind those in place
 two-more : (v : List ℕ) (n x y : ℕ) → n + 1 < length v → take (n + 2) (set (set v n x) (n + 1) y) ≡ take n v ++ (x ∷ y ∷ [])
@@ -71,17 +50,19 @@ two-more v n x y h =
     ∙ ap (λ (l : List ℕ). l ++ (y ∷ [])) (take-suc-set v n x (omega arith))
     ∙ append_assoc (take n v) (x ∷ []) (y ∷ [])
 
-pub one_more : (head : List ℕ) (pts : List Point) (v : List ℕ) (n i x y : ℕ) → i < length pts → n + 1 < most_numbers →
-    x ≡ (get_or pts i nowhere).x → y ≡ (get_or pts i nowhere).y → Gathering head pts v n i → Gathering head pts (set (set v n x) (n + 1) y) (n + 2) (i + 1)
-one_more head pts v n i x y h room ex ey g =
+pub one_more : (head : List ℕ) (pts : List Point) (v : List ℕ) (i x y : ℕ) → i < length pts → 4 + 2 * i + 1 < most_numbers →
+    x ≡ (get_or pts i nowhere).x → y ≡ (get_or pts i nowhere).y → Gathering head pts v i → Gathering head pts (set (set v (4 + 2 * i) x) (4 + 2 * i + 1) y) (i + 1)
+one_more head pts v i x y h room ex ey g =
     let p = get_or pts i nowhere in
+    let n = 4 + 2 * i in
+    let next : 4 + 2 * (i + 1) ≡ n + 2 = omega arith in
     let one : take (i + 1) pts ≡ take i pts ++ (p ∷ []) = ap (λ (k : ℕ). take k pts) (add-one i) ∙ take-suc pts i nowhere h in
     let both : x ∷ y ∷ [] ≡ coordinates (p ∷ []) = ap (λ (k : ℕ). k ∷ y ∷ []) ex ∙ ap (λ (k : ℕ). p.x ∷ k ∷ []) ey ∙ sym (coordinates-one p) in
     record {
-      many = omega (arith, g.many);
       all = length-set (set v n x) (n + 1) y ∙ length-set v n x ∙ g.all;
       front =
-          two-more v n x y (omega (arith, g.all))
+          ap (λ (k : ℕ). take k (set (set v n x) (n + 1) y)) next
+          ∙ two-more v n x y (omega (arith, g.all))
           ∙ ap (λ (l : List ℕ). l ++ (x ∷ y ∷ [])) g.front
           ∙ ap (λ (l : List ℕ). (head ++ coordinates (take i pts)) ++ l) both
           ∙ append_assoc head (coordinates (take i pts)) (coordinates (p ∷ []))
@@ -90,6 +71,6 @@ one_more head pts v n i x y h room ex ey g =
 
 -- before the loop
 pub none_more : (time keys count k c : ℕ) (pts : List Point) → k ≡ keys → c ≡ count →
-    Gathering (kind_report ∷ time ∷ keys ∷ count ∷ []) pts (set (set (set (set (replicate most_numbers 0) 0 kind_report) 1 time) 2 k) 3 c) 4 0
+    Gathering (kind_report ∷ time ∷ keys ∷ count ∷ []) pts (set (set (set (set (replicate most_numbers 0) 0 kind_report) 1 time) 2 k) 3 c) 0
 unfolding coordinates
-none_more time keys count k c pts ek ec = record { many = refl; all = refl; front = ap (λ (n : ℕ). kind_report ∷ time ∷ n ∷ c ∷ []) ek ∙ ap (λ (n : ℕ). kind_report ∷ time ∷ keys ∷ n ∷ []) ec }
+none_more time keys count k c pts ek ec = record { all = refl; front = ap (λ (n : ℕ). kind_report ∷ time ∷ n ∷ c ∷ []) ek ∙ ap (λ (n : ℕ). kind_report ∷ time ∷ keys ∷ n ∷ []) ec }

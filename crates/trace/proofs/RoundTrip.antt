@@ -1,4 +1,5 @@
 -- A call that was written is read back, and so is a whole trace. Assumes nothing.
+use Rattle.std.specs.Prelude.{Result, Ok}
 use Prim.Native.Nat.{ℕ, zero, suc, ◌+◌, ◌≤◌, ◌<◌}
 use mathlib.Core.Path.{◌≡◌, refl, sym, ap, ◌∙◌}
 use mathlib.Core.Bool.{true, false}
@@ -13,26 +14,23 @@ use Rattle.panel.specs.Tests.{when◌then◌else◌}
 use Rattle.panel.specs.declared.points.Event.{Event}
 use Rattle.panel.specs.declared.points.Point.{Point}
 use Rattle.gesture.specs.Answers.{points_in_use}
-use Rattle.gesture.specs.Calls.{Call, report, tick, capture, capture_direct, raw_next, set_grab_ms, call_by}
+use Rattle.gesture.specs.Calls.{Call, report, tick, capture, capture_direct, raw_next, set_grab_ms, call_of}
 use Rattle.trace.specs.Calls.{coordinates, numbers_of, record_of, records_of, trace_of}
-use Rattle.numbers.specs.Numbers.{bytes_of_all, bytes_of, number_from, read}
+use Rattle.numbers.specs.Numbers.{◌>>=◌, bytes_of_all, bytes_of, number_at, read}
 use Rattle.trace.specs.Normal.{Small, Normal, AllNormal}
-use Rattle.trace.specs.Records.{no_points, no_event, points_from, event_of, report_from, tick_from, raw_from, grab_from, of_kind, record_at}
+use Rattle.trace.specs.Records.{no_points, points_from, event_of, report_from, tick_from, raw_from, grab_from, of_kind, record_at}
 use Rattle.numbers.specs.Sizes.{most64}
 use Rattle.trace.specs.Sizes.{most16, most8, most1, most_bytes, version, kind_report, kind_tick, kind_capture, kind_direct, kind_raw, kind_grab}
 use Rattle.trace.specs.Traces.{Traced, ends, and_on, records_from, version_of, head_of, from_head, trace_in}
-use Rattle.numbers.specs.declared.reading.Cursor.TheVariants.{At}
-use Rattle.numbers.specs.declared.reading.Value.{Value}
-use Rattle.gesture.specs.declared.making.CallKind.{CallKind}
-use Rattle.gesture.specs.declared.making.CallKind.TheVariants as Kind
-use Rattle.trace.specs.declared.records.ReadAnswer.{ReadAnswer}
-use Rattle.trace.specs.declared.records.Taken.TheVariants as Taken
+use Rattle.numbers.specs.declared.reading.Stop.{Stop}
+use Rattle.gesture.specs.declared.making.Call as value
+use Rattle.gesture.specs.declared.making.Call.TheVariants.{Report, Tick, Capture, CaptureDirect, RawNext, SetGrabMs}
 use Rattle.numbers.proofs.Back.{Holds, holds_on, number-back, number-next}
-use Rattle.numbers.proofs.Bytes.{groups-some}
+use Rattle.numbers.proofs.Bytes.{bytes-some}
 
 -- Points, one after another.
 points-back : (s : List ℕ) (at : ℕ) (ps : List Point) (rest : List ℕ) → Small ps → Holds s at (bytes_of_all (coordinates ps) ++ rest) →
-    (to : ℕ) × (points_from s (At at) (length ps) ≡ record { points = ps; to = At to }) × Holds s to (bytes_of_all [] ++ rest)
+    (to : ℕ) × (points_from s at (length ps) ≡ Ok (ps, to)) × Holds s to (bytes_of_all [] ++ rest)
 unfolding points_from coordinates
 points-back s at [] rest small h = (at, refl, h)
 points-back s at (p ∷ ps) rest small h =
@@ -63,49 +61,37 @@ in_use e five =
     (λ one. sym (ap fingers (eqb-true e.points 1 one) ∙ one-finger))
     (λ other. length-take (fingers e.points) e.pts ∙ omega (arith, five, most-fingers e.points))
 
--- a call that was read whole, and where the next record begins
-abbrev took : CallKind → Event → ℕ → ReadAnswer
-took kind e to = record { taken = Taken.Call kind to; event = e }
-
 report-back : (s : List ℕ) (at time : ℕ) (e : Event) (rest : List ℕ) → Normal (report time e) →
     Holds s at (bytes_of_all (time ∷ e.keys ∷ e.points ∷ coordinates (points_in_use e)) ++ rest) →
-    (to : ℕ) × (report_from s (At at) ≡ took (Kind.Report time) e to) × Holds s to (bytes_of_all [] ++ rest)
+    (to : ℕ) × (report_from s at ≡ Ok (Report e time, to)) × Holds s to (bytes_of_all [] ++ rest)
 unfolding report_from
 report-back s at time e rest ok h =
-    let t = number-next s at most64 time _ rest ok.1 (omega arith) h in
-    let k = number-next s t.0 most8 e.keys _ rest ok.2 (omega arith) t.2 in
-    let n = number-next s k.0 most8 e.points _ rest ok.3 (omega arith) k.2 in
+    let t = number-next s at most64 time (e.keys ∷ e.points ∷ coordinates (points_in_use e)) rest ok.1 (omega arith) h in
+    let k = number-next s t.0 most8 e.keys (e.points ∷ coordinates (points_in_use e)) rest ok.2 (omega arith) t.2 in
+    let n = number-next s k.0 most8 e.points (coordinates (points_in_use e)) rest ok.3 (omega arith) k.2 in
     let ps = points-back s n.0 (points_in_use e) rest ok.4 n.2 in
     let five : length e.pts ≡ max_points = ap (λ (v : Event). length v.pts) ok.0 ∙ five-of e.keys e.points (points_in_use e) in
     let m = in_use e five in (
       ps.0,
-      rw (t.1, k.1, n.1, ← m, ps.1) (ap (λ (v : Event). took (Kind.Report time) v ps.0) (sym ok.0)),
+      rw (t.1, k.1, n.1, ← m, ps.1) (ap (λ (v : Event). Ok (Report v time, ps.0)) (sym ok.0)),
       ps.2,
     )
 
 -- what follows the kind of a record is read back
-After : List ℕ → ℕ → ℕ → List ℕ → CallKind → Event → List ℕ → Type 0
-After s at kind vs c e rest = (a : ℕ) → Holds s a (bytes_of_all vs ++ rest) → (to : ℕ) × (of_kind s at kind (At a) ≡ took c e to) × Holds s to (bytes_of_all [] ++ rest)
+After : List ℕ → ℕ → ℕ → List ℕ → value.Call → List ℕ → Type 0
+After s at kind vs c rest = (a : ℕ) → Holds s a (bytes_of_all vs ++ rest) → (to : ℕ) × (of_kind s at kind a ≡ Ok (c, to)) × Holds s to (bytes_of_all [] ++ rest)
 
--- the parts of a call, as reading has them
-kind_of : Call → CallKind
-kind_of (report time e) = Kind.Report time
-kind_of (tick time) = Kind.Tick time
-kind_of capture = Kind.Capture
-kind_of capture_direct = Kind.CaptureDirect
-kind_of (raw_next on) = Kind.RawNext on
-kind_of (set_grab_ms ms) = Kind.SetGrabMs ms
+-- the call as reading has it
+as_read : Call → value.Call
+as_read (report time e) = Report e time
+as_read (tick time) = Tick time
+as_read capture = Capture
+as_read capture_direct = CaptureDirect
+as_read (raw_next on) = RawNext on
+as_read (set_grab_ms ms) = SetGrabMs ms
 
-event_in : Call → Event
-event_in (report time e) = e
-event_in (tick time) = no_event
-event_in capture = no_event
-event_in capture_direct = no_event
-event_in (raw_next on) = no_event
-event_in (set_grab_ms ms) = no_event
-
-same-call : (c : Call) → call_by (kind_of c) (event_in c) ≡ c
-unfolding kind_of event_in
+same-call : (c : Call) → call_of (as_read c) ≡ c
+unfolding as_read
 same-call (report time e) = refl
 same-call (tick time) = refl
 same-call capture = refl
@@ -114,53 +100,48 @@ same-call (raw_next on) = refl
 same-call (set_grab_ms ms) = refl
 
 module _ (s : List ℕ) (at : ℕ) (rest : List ℕ) where
-  kind-back : (kind : ℕ) (vs : List ℕ) (c : CallKind) (e : Event) → kind ≤ most64 → After s at kind vs c e rest → Holds s at (bytes_of_all (kind ∷ vs) ++ rest) →
-      (to : ℕ) × (record_at s at ≡ took c e to) × Holds s to (bytes_of_all [] ++ rest)
+  kind-back : (kind : ℕ) (vs : List ℕ) (c : value.Call) → kind ≤ most64 → After s at kind vs c rest → Holds s at (bytes_of_all (kind ∷ vs) ++ rest) →
+      (to : ℕ) × (record_at s at ≡ Ok (c, to)) × Holds s to (bytes_of_all [] ++ rest)
   unfolding record_at After
-  kind-back kind vs c e small after h =
+  kind-back kind vs c small after h =
       let k = number-next s at most64 kind vs rest small (omega arith) h in
       let b = after k.0 k.2 in
       (b.0, rw k.1 b.1, b.2)
 
   -- a call is read back, at every place and whatever follows
-  call_back : (c : Call) → Normal c → Holds s at (record_of c ++ rest) → (to : ℕ) × (record_at s at ≡ took (kind_of c) (event_in c) to) × Holds s to (bytes_of_all [] ++ rest)
-  unfolding record_of numbers_of After of_kind when◌then◌else◌ tick_from raw_from grab_from kind_of event_in
-  call_back (report time e) ok h = kind-back kind_report _ (Kind.Report time) e (omega arith) (λ a k. report-back s a time e rest ok k) h
+  call_back : (c : Call) → Normal c → Holds s at (record_of c ++ rest) → (to : ℕ) × (record_at s at ≡ Ok (as_read c, to)) × Holds s to (bytes_of_all [] ++ rest)
+  unfolding record_of numbers_of After of_kind when◌then◌else◌ tick_from raw_from grab_from as_read
+  call_back (report time e) ok h = kind-back kind_report (time ∷ e.keys ∷ e.points ∷ coordinates (points_in_use e)) (Report e time) (omega arith) (λ a k. report-back s a time e rest ok k) h
   call_back (tick time) ok h =
-      kind-back kind_tick (time ∷ []) (Kind.Tick time) no_event (omega arith)
+      kind-back kind_tick (time ∷ []) (Tick time) (omega arith)
       (λ a k. let n = number-next s a most64 time [] rest ok (omega arith) k in (n.0, rw n.1, n.2)) h
-  call_back capture ok h = kind-back kind_capture [] Kind.Capture no_event (omega arith) (λ a k. (a, refl, k)) h
-  call_back capture_direct ok h = kind-back kind_direct [] Kind.CaptureDirect no_event (omega arith) (λ a k. (a, refl, k)) h
+  call_back capture ok h = kind-back kind_capture [] Capture (omega arith) (λ a k. (a, refl, k)) h
+  call_back capture_direct ok h = kind-back kind_direct [] CaptureDirect (omega arith) (λ a k. (a, refl, k)) h
   call_back (raw_next true) ok h =
-      kind-back kind_raw (1 ∷ []) (Kind.RawNext true) no_event (omega arith)
+      kind-back kind_raw (1 ∷ []) (RawNext true) (omega arith)
       (λ a k. let n = number-next s a most1 1 [] rest (omega arith) (omega arith) k in (n.0, rw n.1, n.2)) h
   call_back (raw_next false) ok h =
-      kind-back kind_raw (0 ∷ []) (Kind.RawNext false) no_event (omega arith)
+      kind-back kind_raw (0 ∷ []) (RawNext false) (omega arith)
       (λ a k. let n = number-next s a most1 0 [] rest (omega arith) (omega arith) k in (n.0, rw n.1, n.2)) h
   call_back (set_grab_ms ms) ok h =
-      kind-back kind_grab (ms ∷ []) (Kind.SetGrabMs ms) no_event (omega arith)
+      kind-back kind_grab (ms ∷ []) (SetGrabMs ms) (omega arith)
       (λ a k. let n = number-next s a most16 ms [] rest ok (omega arith) k in (n.0, rw n.1, n.2)) h
 
   -- the same with the place where the next record begins
-  record-back : (c : Call) → Normal c → Holds s at (record_of c ++ rest) → record_at s at ≡ took (kind_of c) (event_in c) (at + length (record_of c))
-  unfolding bytes_of_all
+  record-back : (c : Call) → Normal c → Holds s at (record_of c ++ rest) → record_at s at ≡ Ok (as_read c, at + length (record_of c))
   record-back c ok h =
       let b = call_back c ok h in
-      b.1 ∙ ap (took (kind_of c) (event_in c)) (omega (arith, h.fill, b.2.fill, length-append (record_of c) rest))
+      b.1 ∙ ap (λ (to : ℕ). Ok (as_read c, to)) (omega (arith, h.fill, b.2.fill, length-append (record_of c) rest))
 
 -- A record has a byte or more.
-all-some : (v : ℕ) (vs : List ℕ) → 0 < length (bytes_of_all (v ∷ vs))
-unfolding bytes_of_all bytes_of
-all-some v vs = omega (arith, length-append (bytes_of v) (bytes_of_all vs), groups-some 10 v (λ z. omega arith))
-
 pub record-some : (c : Call) → 0 < length (record_of c)
 unfolding record_of numbers_of
-record-some (report time e) = all-some kind_report _
-record-some (tick time) = all-some kind_tick _
-record-some capture = all-some kind_capture _
-record-some capture_direct = all-some kind_direct _
-record-some (raw_next on) = all-some kind_raw _
-record-some (set_grab_ms ms) = all-some kind_grab _
+record-some (report time e) = simp length-append (omega (arith, bytes-some kind_report))
+record-some (tick time) = simp length-append (omega (arith, bytes-some kind_tick))
+record-some capture = simp length-append (omega (arith, bytes-some kind_capture))
+record-some capture_direct = simp length-append (omega (arith, bytes-some kind_direct))
+record-some (raw_next on) = simp length-append (omega (arith, bytes-some kind_raw))
+record-some (set_grab_ms ms) = simp length-append (omega (arith, bytes-some kind_grab))
 
 -- The whole trace.
 
@@ -180,15 +161,15 @@ module _ (s : List ℕ) where
       let inside : at < length s = omega (arith, h.fill) in
       let ih = records-back cs k (at + length (record_of c)) ok.1 (omega arith) (holds_on s at (record_of c) (records_of cs) h) in
       if-false _ _ _ (lt-leb (length s) at inside)
-      ∙ ap (λ (r : ReadAnswer). and_on (λ next. records_from k s next) r r.taken) (record-back s at (records_of cs) c ok.0 h)
+      ∙ ap (and_on (λ next. records_from k s next)) (record-back s at (records_of cs) c ok.0 h)
       ∙ ap (λ (x : Call). record { calls = x ∷ (records_from k s (at + length (record_of c))).calls; ending = (records_from k s (at + length (record_of c))).ending }) (same-call c)
       ∙ ap (λ (t : Traced). record { calls = c ∷ t.calls; ending = t.ending }) ih
 
-head-back : (s : List ℕ) (next : ℕ) → length s ≤ most_bytes → number_from s (At 0) most64 ≡ read version next → head_of s ≡ At next
+head-back : (s : List ℕ) (next : ℕ) → length s ≤ most_bytes → number_at s 0 most64 ≡ read version next → head_of s ≡ Ok next
 unfolding head_of
 head-back s next small e =
     if-false _ _ _ (le-ltb most_bytes (length s) small)
-    ∙ ap (λ (v : Value). version_of v.v v.to) e
+    ∙ ap (λ (r : Result (ℕ × ℕ) Stop). r >>= λ v. version_of v.0 v.1) e
     ∙ if-true _ _ _ (eq-eqb version version refl)
 
 -- Reading a written trace of at most 65,536 bytes gives the calls back.

@@ -6,5 +6,5 @@ mod records;
 mod sizes;
 mod writing;
 
-pub use records::{ReadAnswer, Taken, head, next_record};
+pub use records::{head, next_record};
 pub use writing::{put_head, put_record};

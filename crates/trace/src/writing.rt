@@ -1,120 +1,82 @@
 // A call as a record of the trace, into lent bytes. The record's numbers are gathered first, so that
 // its length is known before a byte is written: a record that does not fit leaves the room as it was.
-ghost use Rattle.std.specs.Prelude.{◌≡◌, ◌≤◌, [], ◌∷◌, take};
+//
+// Room and place stand apart, as in numbers: the contracts speak of both (`wrote_of out.old at`), the caller goes on
+// at the answer, and a struct of them would be made by each caller and taken apart again.
+ghost use Rattle.std.specs.Prelude.{◌≡◌, ◌+◌, ◌*◌, [], ◌∷◌, take};
 ghost use Rattle.panel.specs.Tests.{when◌then◌else◌, ◌=?◌};
 ghost use Rattle.panel.specs.Points.{fingers};
-ghost use Rattle.gesture.specs.Calls.{call_by, call_of, report};
+ghost use Rattle.gesture.specs.Calls.{call_of, report};
 ghost use Rattle.numbers.specs.Numbers.{bytes_of};
 ghost use Rattle.numbers.specs.Writing.{wrote_of, written_of};
 ghost use Rattle.trace.specs.Sizes.{version, kind_report};
 ghost use Rattle.trace.specs.Calls.{coordinates, numbers_of, record_of};
-ghost use Rattle.trace.specs.code.Sizes.{most_numbers};
+ghost use Rattle.trace.specs.code.Sizes.{report_numbers};
 
 use crate::sizes::{CAPTURE, DIRECT, GRAB, MOST_NUMBERS, RAW, REPORT, REPORT_HEAD, TICK, VERSION};
-use gesture::{Call, CallKind};
-use numbers::WriteAnswer;
-use panel::{Event, MAX_POINTS, Point, wide8, wide16};
+use gesture::Call;
+use numbers::{put_number, put_numbers};
+use panel::{Event, MAX_POINTS, Point, Refusal, fingers_of};
 
-// The numbers of a record: the first n.
-#[derive(Clone, Copy)]
-struct Gathered {
-    v: [u64; MOST_NUMBERS],
-    n: usize,
-}
-
-// The points of a report, those in use in front: for one finger that is `p`.
+// The points of a report, those in use in front: for one finger that is `p`. Count and five points, here and below and
+// in records.rt: a report is that in document 01, and C hands it over so.
+#[tactic(auto, using(panel::proofs::Follow::follow))]
 fn used_first(count: u8, p: Point, pts: [Point; MAX_POINTS]) -> [Point; MAX_POINTS]
     ensures { take (fingers count) result ≡ when◌then◌else◌ (count =? 1) (p ∷ []) (take (fingers count) pts) }
 {
     if count == 1 {
-        let mut used = pts;
-        used[0] = p;
-        return used;
+        return [p; MAX_POINTS];
     }
     pts
 }
 
-// The numbers of a report whose points are these, and how many of them are in use.
-fn gather(time: u64, keys: u8, count: u8, pts: [Point; MAX_POINTS]) -> Gathered
-    ensures { (take result.n result.v ≡ kind_report ∷ time ∷ keys ∷ count ∷ coordinates (take (fingers count) pts)) × (result.n ≤ most_numbers) }
+// The numbers of a report whose points are these, and zeros behind them. By index: the i-th point goes to two places of
+// v, and the invariant (Gathering) counts the points that are in it. Tried with `chunks_exact_mut(2)` zipped with the
+// points: an invariant on the pairs already lent was left to find, and with it the loop's start, its step and the end.
+fn gather(time: u64, keys: u8, count: u8, pts: [Point; MAX_POINTS]) -> [u64; MOST_NUMBERS]
+    ensures { take (report_numbers count) result ≡ kind_report ∷ time ∷ keys ∷ count ∷ coordinates (take (fingers count) pts) }
 {
-    let mut v = [0u64; MOST_NUMBERS];
+    let mut v = [0; MOST_NUMBERS];
     v[0] = REPORT;
     v[1] = time;
-    v[2] = wide8(keys);
-    v[3] = wide8(count);
-    let used = panel::fingers_of(count);
-    let mut n = REPORT_HEAD;
-    let mut i = 0;
-    while i < used {
-        let p = pts[i];
-        v[n] = wide16(p.x);
-        v[n + 1] = wide16(p.y);
-        n += 2;
-        i += 1;
+    v[2] = u64::from(keys);
+    v[3] = u64::from(count);
+    for i in 0..fingers_of(count) {
+        v[REPORT_HEAD + 2 * i] = u64::from(pts[i].x);
+        v[REPORT_HEAD + 2 * i + 1] = u64::from(pts[i].y);
     }
-    Gathered { v, n }
+    v
 }
 
-fn report_numbers(time: u64, e: Event) -> Gathered
-    ensures { (take result.n result.v ≡ numbers_of (report time e)) × (result.n ≤ most_numbers) }
+#[tactic(auto, unfolding(crate::specs::Calls::record_of, crate::specs::Calls::numbers_of, gesture::specs::Answers::points_in_use))]
+fn put_report(out: &mut [u8], at: usize, e: Event, time: u64) -> Result<usize, Refusal>
+    ensures value { result ≡ wrote_of out.old at (record_of (report time e)) }
+    ensures out_after { out.new ≡ written_of out.old at (record_of (report time e)) }
 {
-    let p = e.p;
-    let pts = e.pts;
-    let used = used_first(e.points, p, pts);
-    gather(time, e.keys, e.points, used)
-}
-
-// A record of one number or two.
-fn short(kind: u64, v: u64, n: usize) -> Gathered
-    requires { n ≤ 2 }
-    ensures { (take result.n result.v ≡ take n (kind ∷ v ∷ [])) × (result.n ≤ most_numbers) }
-{
-    let mut w = [0u64; MOST_NUMBERS];
-    w[0] = kind;
-    w[1] = v;
-    Gathered { v: w, n }
-}
-
-fn flag(b: bool) -> u64
-    ensures { result ≡ when◌then◌else◌ b 1 0 }
-{
-    if b {
-        return 1;
-    }
-    0
-}
-
-fn gathered_of(kind: CallKind, event: Event) -> Gathered
-    ensures { (take result.n result.v ≡ numbers_of (call_by kind event)) × (result.n ≤ most_numbers) }
-{
-    match kind {
-        CallKind::Report(time) => report_numbers(time, event),
-        CallKind::Tick(time) => short(TICK, time, 2),
-        CallKind::Capture => short(CAPTURE, 0, 1),
-        CallKind::CaptureDirect => short(DIRECT, 0, 1),
-        CallKind::RawNext(on) => short(RAW, flag(on), 2),
-        CallKind::SetGrabMs(ms) => short(GRAB, wide16(ms), 2),
-    }
+    let v = gather(time, e.keys, e.points, used_first(e.points, e.p, e.pts));
+    put_numbers(out, at, &v[..REPORT_HEAD + 2 * fingers_of(e.points)])
 }
 
 // Writes the record of a call from `at` on, where there is room for all of it.
-pub fn put_record(out: &mut [u8], at: usize, c: Call) -> WriteAnswer
+#[tactic(auto, using(panel::proofs::Follow::follow), unfolding(crate::specs::Calls::record_of, crate::specs::Calls::numbers_of))]
+pub fn put_record(out: &mut [u8], at: usize, c: Call) -> Result<usize, Refusal>
     ensures value { result ≡ wrote_of out.old at (record_of (call_of c)) }
     ensures out_after { out.new ≡ written_of out.old at (record_of (call_of c)) }
 {
-    let kind = c.kind;
-    let event = c.event;
-    let m = gathered_of(kind, event);
-    let v = m.v;
-    let n = m.n;
-    numbers::put_numbers(out, at, &v[..n])
+    match c {
+        Call::Report(e, time) => put_report(out, at, e, time),
+        Call::Tick(time) => put_numbers(out, at, &[TICK, time]),
+        Call::Capture => put_numbers(out, at, &[CAPTURE]),
+        Call::CaptureDirect => put_numbers(out, at, &[DIRECT]),
+        Call::RawNext(on) => put_numbers(out, at, &[RAW, u64::from(on)]),
+        Call::SetGrabMs(ms) => put_numbers(out, at, &[GRAB, u64::from(ms)]),
+    }
 }
 
 // Writes the version, with which a trace begins.
-pub fn put_head(out: &mut [u8], at: usize) -> WriteAnswer
+pub fn put_head(out: &mut [u8], at: usize) -> Result<usize, Refusal>
     ensures value { result ≡ wrote_of out.old at (bytes_of version) }
     ensures out_after { out.new ≡ written_of out.old at (bytes_of version) }
 {
-    numbers::put_number(out, at, VERSION)
+    put_number(out, at, VERSION)
 }

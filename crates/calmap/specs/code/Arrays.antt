@@ -1,21 +1,19 @@
 -- Lent lists, as the code holds them: an array of 64, a count, and whether the list goes on. proofs/Holding.antt has that
 -- `resid` and `check` of what is held are those of the lists.
-use Rattle.std.specs.Prelude.{ℕ, zero, suc, ◌+◌, min, true, List, [], ◌∷◌, pos, length, set}
+use Rattle.std.specs.Prelude.{ℕ, zero, suc, min, List, [], ◌∷◌, pos, length, Result, Err}
 use Rattle.panel.specs.Tests.{when◌then◌else◌, ◌and◌, ◌<?◌}
 use Rattle.panel.specs.declared.points.Point.{Point}
 use Rattle.panel.specs.declared.refusals.Refusal.TheVariants.{Long}
 use Rattle.calmap.specs.Checks.{check_first}
 use Rattle.calmap.specs.Resids.{pairs_of, resid_first}
 use Rattle.calmap.specs.Sizes.{longest}
-use Rattle.calmap.specs.declared.arrays.Aims.{Aims}
-use Rattle.calmap.specs.declared.arrays.Points.{Points}
-use Rattle.calmap.specs.declared.arrays.Taps.{Taps}
-use Rattle.calmap.specs.declared.limits.CheckAnswer.{CheckAnswer}
-use Rattle.calmap.specs.declared.limits.CheckAnswer.TheVariants as Check
-use Rattle.calmap.specs.declared.residuals.ResidAnswer.{ResidAnswer}
-use Rattle.calmap.specs.declared.residuals.ResidAnswer.TheVariants as Resid
+use Rattle.calmap.specs.declared.arrays.Held.{Held}
+use Rattle.calmap.specs.declared.units.Aim.{Aim}
 use Rattle.calmap.specs.declared.units.Cal.{Cal}
 use Rattle.calmap.specs.declared.units.Tap.{Tap}
+use Rattle.calmap.specs.declared.limits.Verdict.{Verdict}
+use Rattle.panel.specs.declared.refusals.Refusal.{Refusal}
+use Rattle.calmap.specs.declared.residuals.Spread.{Spread}
 
 -- the first k of a list, and zeros where it has no more
 unfoldable pub filled : {A : Type 0} → A → ℕ → List A → List A
@@ -29,32 +27,24 @@ tap0 = record { x = pos 0; y = pos 0 }
 abbrev pub point0 : Point
 point0 = record { x = 0; y = 0 }
 
-unfoldable pub held_taps : List Tap → Taps
-held_taps ts = record { list = filled tap0 longest ts; n = min (length ts) longest; long = longest <? length ts }
+unfoldable pub held : {A : Type 0} → A → List A → Held A
+held none xs = record { list = filled none longest xs; n = min (length xs) longest; long = longest <? length xs }
 
-unfoldable pub held_points : List Point → Points
-held_points ps = record { list = filled point0 longest ps; n = min (length ps) longest; long = longest <? length ps }
+abbrev pub held_taps : List Tap → Held Tap
+held_taps = held tap0
+
+abbrev pub held_points : List Point → Held Point
+held_points = held point0
 
 -- two lists side by side: the shorter counts
-unfoldable pub pair_up : Taps → Taps → Aims
+unfoldable pub pair_up : Held Tap → Held Tap → Held Aim
 pair_up a b = record { list = pairs_of a.list b.list; n = min a.n b.n; long = a.long and b.long }
 
-abbrev pub held_pairs : List Tap → List Tap → Aims
+abbrev pub held_pairs : List Tap → List Tap → Held Aim
 held_pairs raw tgt = pair_up (held_taps raw) (held_taps tgt)
 
--- one more at the end
-unfoldable pub put_tap : Taps → Tap → Taps
-put_tap l t =
-    when l.n <? longest then record { list = set l.list l.n t; n = l.n + 1; long = l.long }
-    else record { list = l.list; n = l.n; long = true }
+unfoldable pub resid_held : Cal → Held Aim → Result Spread Refusal
+resid_held c a = when a.long then Err Long else resid_first c a.n a.list
 
-unfoldable pub put_point : Points → Point → Points
-put_point l p =
-    when l.n <? longest then record { list = set l.list l.n p; n = l.n + 1; long = l.long }
-    else record { list = l.list; n = l.n; long = true }
-
-unfoldable pub resid_held : Cal → Aims → ResidAnswer
-resid_held c a = when a.long then Resid.Refused Long else resid_first c a.n a.list
-
-unfoldable pub check_held : Cal → Points → CheckAnswer
-check_held c a = when a.long then Check.Refused Long else check_first c a.n a.list
+unfoldable pub check_held : Cal → Held Point → Result Verdict Refusal
+check_held c a = when a.long then Err Long else check_first c a.n a.list

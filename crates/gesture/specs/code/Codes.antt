@@ -1,6 +1,6 @@
 -- A gesture's code number, its small number and its point: all that the log wants of it, so that the code makes no more.
 -- proofs/Table.antt shows that the lines by them are `gesture_line`, which is the one to hold against document 01.
-use Rattle.std.specs.Prelude.{ℕ, Bool}
+use Rattle.std.specs.Prelude.{ℕ, Bool, Option, None}
 use Rattle.panel.specs.Axes.{axis_number}
 use Rattle.panel.specs.Tests.{when◌then◌else◌, ◌and◌, ◌=?◌, bit}
 use Rattle.panel.specs.declared.points.Point.{Point}
@@ -11,8 +11,7 @@ use Rattle.gesture.specs.Letters.{ascii_D, ascii_T, ascii_L, ascii_M, ascii_G, a
 use Rattle.gesture.specs.Trackers.{origin}
 use Rattle.gesture.specs.Lines.{line}
 use Rattle.gesture.specs.declared.lines.Coded.{Coded}
-use Rattle.gesture.specs.declared.lines.Log.{Log}
-use Rattle.gesture.specs.declared.lines.Log.TheVariants.{Silent}
+use Rattle.gesture.specs.declared.lines.Line.{Line}
 
 unfoldable pub coded_as : ℕ → ℕ → Point → Coded
 coded_as code number p = record { code = code; number = number; p = p }
@@ -37,7 +36,7 @@ code_of (Move prev p) = coded_as 14 0 p
 code_of (Pinch a span0 span) = coded_as 15 (axis_number a) origin
 code_of (PinchEnd released) = coded_as 16 (bit released) origin
 
-unfoldable pub line_by_code : ℕ → ℕ → Point → ℕ → Log
+unfoldable pub line_by_code : ℕ → ℕ → Point → ℕ → Option Line
 line_by_code code number p now =
     when code =? 0 then line ascii_D 0 p now
     else when code =? 1 then line ascii_T 0 p now
@@ -54,7 +53,7 @@ line_by_code code number p now =
     else when code =? 12 then line ascii_K number origin now
     else when code =? 13 then line ascii_k number origin now
     else when code =? 16 then line ascii_E number origin now
-    else Silent
+    else None
 
 -- a later Drag of a touch whose axis is locked
 unfoldable pub is_later_drag : ℕ → Bool → Bool

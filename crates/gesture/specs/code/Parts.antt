@@ -1,6 +1,6 @@
 -- The state rule part by part, as the code goes through the record: proofs/Rule.antt shows that the parts together are
 -- `state_rule`, which is the one to hold against document 01.
-use Rattle.std.specs.Prelude.{Bool, true}
+use Rattle.std.specs.Prelude.{Bool, true, Option, Some, None}
 use Rattle.panel.specs.Tests.{◌and◌, ◌≤?◌, ◌<?◌}
 use Rattle.panel.specs.Sizes.{width, max_points}
 use Rattle.panel.specs.Points.{on_panel}
@@ -8,8 +8,6 @@ use Rattle.fingers.specs.Thresholds.{grab_most, fewest}
 use Rattle.fingers.specs.Pairs.{no_pinch}
 use Rattle.fingers.specs.declared.one.One.{One}
 use Rattle.fingers.specs.declared.pair.Pair.{Pair}
-use Rattle.fingers.specs.declared.pair.Pairing.{Pairing}
-use Rattle.fingers.specs.declared.pair.Pairing.TheVariants.{Unpaired, Paired}
 use Rattle.fingers.specs.declared.several.Multi as several
 use Rattle.gesture.specs.States.{raw_rule}
 use Rattle.gesture.specs.declared.record.Touch.{Touch}
@@ -25,9 +23,9 @@ pair_places r = on_panel r.a and on_panel r.b and on_panel r.c0
 unfoldable pub pair_part : Pair → Bool
 pair_part r = pair_places r and (r.span0 <? width) and (r.state ≤? no_pinch)
 
-unfoldable pub pairing_part : Pairing → Bool
-pairing_part Unpaired = true
-pairing_part (Paired r) = pair_part r
+unfoldable pub pairing_part : Option Pair → Bool
+pairing_part None = true
+pairing_part (Some r) = pair_part r
 
 unfoldable pub multi_places : several.Multi → Bool
 multi_places m = on_panel m.c0 and on_panel m.c1
@@ -35,7 +33,7 @@ multi_places m = on_panel m.c0 and on_panel m.c1
 unfoldable pub multi_part : several.Multi → Bool
 multi_part m = (fewest ≤? m.n) and (m.n ≤? max_points) and multi_places m
 
-unfoldable pub several_part : several.Multi → Pairing → Bool
+unfoldable pub several_part : several.Multi → Option Pair → Bool
 several_part m pair = multi_part m and pairing_part pair
 
 unfoldable pub touch_part : Touch → Bool

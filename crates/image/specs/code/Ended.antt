@@ -1,8 +1,6 @@
 -- The stored end of several fingers: its places, what is read there, and what is looked at.
-use Rattle.std.specs.Prelude.{ℕ, ◌+◌, Bool, List}
+use Rattle.std.specs.Prelude.{ℕ, ◌+◌, Bool, List, Option, Some, None}
 use Rattle.panel.specs.Tests.{when◌then◌else◌, ◌=?◌}
-use Rattle.gesture.specs.declared.record.MultiEnd.{MultiEnd}
-use Rattle.gesture.specs.declared.record.MultiEnd.TheVariants.{Never, At}
 use Rattle.image.specs.code.Numbers.{number_at, is_zero}
 use Rattle.image.specs.code.Finger.{finger_end}
 
@@ -15,10 +13,10 @@ at_end_time = at_ended + 1
 abbrev pub ended_end : ℕ
 ended_end = at_end_time + 8
 
-unfoldable pub end_from : ℕ → ℕ → MultiEnd
-end_from n time = when n =? 0 then Never else At time
+unfoldable pub end_from : ℕ → ℕ → Option ℕ
+end_from n time = when n =? 0 then None else Some time
 
-abbrev pub end_at : List ℕ → MultiEnd
+abbrev pub end_at : List ℕ → Option ℕ
 end_at area = end_from (number_at area at_ended 1) (number_at area at_end_time 8)
 
 unfoldable pub end_checked : List ℕ → Bool

@@ -1,14 +1,13 @@
 -- What the one finger did and what the app made of its touch, whose rows stand among one another: their places, what is read
 -- there, and what is looked at.
-use Rattle.std.specs.Prelude.{ℕ, ◌+◌, Bool, List}
+use Rattle.std.specs.Prelude.{ℕ, ◌+◌, Bool, List, Option, Some, None}
 use Rattle.panel.specs.Tests.{when◌then◌else◌, ◌and◌, ◌=?◌, ◌≤?◌}
 use Rattle.panel.specs.declared.axes.Axis.TheVariants.{H, «V»}
-use Rattle.panel.specs.declared.axes.AxisLock.{AxisLock}
-use Rattle.panel.specs.declared.axes.AxisLock.TheVariants.{Free, On}
 use Rattle.fingers.specs.declared.one.One.{One}
 use Rattle.fingers.specs.declared.one.App.{App}
 use Rattle.image.specs.code.Numbers.{number_at, point_at, flag_at, is_flag}
 use Rattle.image.specs.code.Touches.{touch_end}
+use Rattle.panel.specs.declared.axes.Axis.{Axis}
 
 abbrev pub at_last : ℕ
 at_last = touch_end
@@ -45,8 +44,8 @@ finger_end = at_raw + 1
 
 -- What is read there.
 
-unfoldable pub lock_from : ℕ → AxisLock
-lock_from n = when n =? 0 then Free else when n =? 1 then On H else On «V»
+unfoldable pub lock_from : ℕ → Option Axis
+lock_from n = when n =? 0 then None else when n =? 1 then Some H else Some «V»
 
 unfoldable pub one_at : List ℕ → One
 one_at area =

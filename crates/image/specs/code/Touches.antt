@@ -1,14 +1,12 @@
 -- The touch: where its rows stand, each after the rows before it (the code has the same names), what is read there, and what is
 -- looked at.
-use Rattle.std.specs.Prelude.{ℕ, ◌+◌, Bool, true, false, List}
+use Rattle.std.specs.Prelude.{ℕ, ◌+◌, Bool, true, false, List, Option, Some, None}
 use Rattle.panel.specs.Tests.{when◌then◌else◌, ◌and◌, ◌=?◌, ◌≤?◌}
 use Rattle.panel.specs.declared.points.Point.{Point}
 use Rattle.panel.specs.declared.axes.Axis.{Axis}
 use Rattle.panel.specs.declared.axes.Axis.TheVariants.{H, «V»}
 use Rattle.fingers.specs.declared.several.Multi.{Multi}
 use Rattle.fingers.specs.declared.pair.Pair.{Pair}
-use Rattle.fingers.specs.declared.pair.Pairing.{Pairing}
-use Rattle.fingers.specs.declared.pair.Pairing.TheVariants.{Unpaired, Paired}
 use Rattle.gesture.specs.declared.record.Touch.{Touch}
 use Rattle.gesture.specs.declared.record.Touch.TheVariants as touch
 use Rattle.image.specs.code.Numbers.{number_at, point_at, is_zero, is_flag}
@@ -67,10 +65,10 @@ touch_end = at_pair_state + 1
 unfoldable pub axis_from : ℕ → Axis
 axis_from n = when n =? 0 then H else «V»
 
-unfoldable pub pairing_from : ℕ → Pair → Pairing
-pairing_from n r = when n =? 0 then Unpaired else Paired r
+unfoldable pub pairing_from : ℕ → Pair → Option Pair
+pairing_from n r = when n =? 0 then None else Some r
 
-unfoldable pub touch_from : ℕ → Point → ℕ → Multi → Pairing → Touch
+unfoldable pub touch_from : ℕ → Point → ℕ → Multi → Option Pair → Touch
 touch_from n start since m pair =
     when n =? 0 then touch.Idle
     else when n =? 1 then touch.Down start since

@@ -6,5 +6,5 @@ use Rattle.play.proofs.main.Goals as goal
 
 pub slice_bounds-write_all-end : goal.slice_bounds-write_all-end
 slice_bounds-write_all-end c =
-    let fits = lent _ _ _ _ _ c.in-Wrote.is (c.play-played.ensures.value, c.play-played.ensures.out_after) in
+    let fits = lent _ _ _ _ _ c.in-Ok.is (c.play.ensures.value, c.play.ensures.out_after) in
     sym (length-take-le _ _ (omega (arith, fits)))

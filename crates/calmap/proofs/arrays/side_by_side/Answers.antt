@@ -27,15 +27,15 @@ module _ (a b : List Tap) (r : List Aim) (i : ℕ) where
   all ha hb hr e = sym (take_all i r hr) ∙ e ∙ take_all i (pairs_of a b) (omega (arith, pairs-length a b))
 
 pub loop-i-init : goal.loop-i-init
-loop-i-init c = (omega arith, c.blank-r.ensures, refl)
+loop-i-init c = (refl, refl)
 
 pub loop-i-preserved : goal.loop-i-preserved
 loop-i-preserved c =
     let s = c.args in
-    (omega arith, length-set c.loop-i.r c.loop-i.i _ ∙ c.loop-i.invariant.1, more s.a s.b c.loop-i.r c.loop-i.i (omega arith) (omega arith) (omega arith) c.loop-i.invariant.2)
+    (length-set c.loop-i.r c.loop-i.i _ ∙ c.loop-i.invariant.0, more s.a s.b c.loop-i.r c.loop-i.i (omega arith) (omega arith) (omega arith) c.loop-i.invariant.1)
 
 pub returns : goal.returns
 returns c =
     let s = c.args in
     let e : c.loop-i.i ≡ longest = omega arith in
-    all s.a s.b c.loop-i.r c.loop-i.i (omega arith) (omega arith) (omega (arith, c.loop-i.invariant.1)) c.loop-i.invariant.2
+    all s.a s.b c.loop-i.r c.loop-i.i (omega arith) (omega arith) (omega (arith, c.loop-i.invariant.0)) c.loop-i.invariant.1

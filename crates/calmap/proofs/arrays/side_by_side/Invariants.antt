@@ -1,5 +1,4 @@
--- `calmap::arrays::side_by_side` meets its contract. Assumes nothing.
-use Prim.Native.Nat.{◌-◌, ◌≤◌}
+-- `side_by_side`: what is passed stands side by side. Assumes nothing.
 use mathlib.Core.Path.{◌≡◌}
 use lib.ListN.{length, take}
 use Rattle.calmap.specs.Resids.{pairs_of}
@@ -7,7 +6,4 @@ use Rattle.calmap.specs.Sizes.{longest}
 use Rattle.calmap.proofs.arrays.side_by_side.Given as goal
 
 abbrev pub invariant-loop-i : goal.invariant-loop-i
-invariant-loop-i l = (l.i ≤ longest) × (length l.r ≡ longest) × (take l.i l.r ≡ take l.i (pairs_of l.a l.b))
-
-abbrev pub decreases-loop-i : goal.decreases-loop-i
-decreases-loop-i l = longest - l.i
+invariant-loop-i l = (length l.r ≡ longest) × (take l.i l.r ≡ take l.i (pairs_of l.a l.b))

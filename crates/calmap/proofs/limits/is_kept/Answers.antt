@@ -15,10 +15,10 @@ spot_at-s-requires c = sym c.fits.ensures ∙ c.if-fits.true
 pub returns-then-is_near : goal.returns-then-is_near
 unfolding stays
 returns-then-is_near c =
-    let fx : SFits w32 c.of_u16-x.result = search rules in
-    let fy : SFits w32 c.of_u16-y.result = search rules in
-    let px = plain fx ∙ c.of_u16-x.ensures in
-    let py = plain fy ∙ c.of_u16-y.ensures in
+    let fx : SFits w32 c.from-x.result = search rules in
+    let fy : SFits w32 c.from-y.result = search rules in
+    let px = plain fx ∙ c.from-x.ensures in
+    let py = plain fy ∙ c.from-y.ensures in
     let asked = simp (px, py) at c.fits.ensures in
     let lands = simp (px, py) at c.spot_at-s.ensures in
     let here = sym (applied _ _ _ (sym asked ∙ c.if-fits.true)) in
@@ -28,22 +28,22 @@ returns-then-is_near c =
 pub returns-else-is_near : goal.returns-else-is_near
 unfolding stays
 returns-else-is_near c =
-    let fx : SFits w32 c.of_u16-x.result = search rules in
-    let fy : SFits w32 c.of_u16-y.result = search rules in
-    let px = plain fx ∙ c.of_u16-x.ensures in
-    let py = plain fy ∙ c.of_u16-y.ensures in
+    let fx : SFits w32 c.from-x.result = search rules in
+    let fy : SFits w32 c.from-y.result = search rules in
+    let px = plain fx ∙ c.from-x.ensures in
+    let py = plain fy ∙ c.from-y.ensures in
     let asked = simp (px, py) at c.fits.ensures in
     let lands = simp (px, py) at c.spot_at-s.ensures in
     let here = sym (applied _ _ _ (sym asked ∙ c.if-fits.true)) in
     let near-x = (λ i. near (sym lands i).0 c.args.p.x) ∙ sym c.is_near.ensures ∙ c.if-is_near.false in
-    rw here (sym (and-false _ _ near-x))
+    rw here (c.if-is_near.false ∙ sym (and-false _ _ near-x))
 
-pub returns-else-fits : goal.returns-else-fits
+pub returns : goal.returns
 unfolding stays
-returns-else-fits c =
-    let fx : SFits w32 c.of_u16-x.result = search rules in
-    let fy : SFits w32 c.of_u16-y.result = search rules in
-    let px = plain fx ∙ c.of_u16-x.ensures in
-    let py = plain fy ∙ c.of_u16-y.ensures in
+returns c =
+    let fx : SFits w32 c.from-x.result = search rules in
+    let fy : SFits w32 c.from-y.result = search rules in
+    let px = plain fx ∙ c.from-x.ensures in
+    let py = plain fy ∙ c.from-y.ensures in
     let asked = simp (px, py) at c.fits.ensures in
     rw (sym (not-applied _ _ _ (sym asked ∙ c.if-fits.false)))

@@ -5,4 +5,4 @@ use Rattle.calmap.proofs.Holding.{check-of-held}
 use Rattle.calmap.proofs.lists.check.Goals as goal
 
 pub returns : goal.returns
-returns c = c.check_held.ensures ∙ ap (check_held c.args.c) c.points_of-a.ensures ∙ check-of-held c.args.c c.args.targets.now
+returns c = c.check_held.ensures ∙ ap (check_held c.args.c) c.points_of.ensures ∙ check-of-held c.args.c c.args.targets.now

@@ -5,4 +5,4 @@ use Rattle.calmap.proofs.Holding.{resid-of-held}
 use Rattle.calmap.proofs.lists.resid.Goals as goal
 
 pub returns : goal.returns
-returns c = c.resid_held.ensures ∙ ap (resid_held c.args.c) c.pairs_of-a.ensures ∙ resid-of-held c.args.c c.args.raw.now c.args.tgt.now
+returns c = c.resid_held.ensures ∙ ap (resid_held c.args.c) c.pairs_of.ensures ∙ resid-of-held c.args.c c.args.raw.now c.args.tgt.now

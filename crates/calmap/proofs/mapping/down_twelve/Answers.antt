@@ -11,5 +11,5 @@ use Rattle.calmap.proofs.mapping.down_twelve.Goals as goal
 pub returns : goal.returns
 returns c =
     let q = c.args.q in
-    let f : SFits w32 q.0 = search (rules, c.struct_told-1.given) in
+    let f : SFits w32 q.0 = search rules in
     ap sixteenths (shift_is q.0 twelve f)

@@ -1,19 +1,12 @@
 -- `calmap::mapping::few_pixels` meets its contract. Assumes nothing.
-use mathlib.Core.Path.{◌≡◌, sym, subst, ap, ◌∙◌}
-use mathlib.Core.Bool.{true, false}
-use lib.IntN.{ℤ, pos, negsuc}
-use lib.Signed.{lt_z}
-use borrow.Author.Tests.{le-ltb}
+use mathlib.Core.Path.{ap, ◌∙◌}
+use lib.IntN.{ℤ}
+use mir.Syntax.{w32}
+use mir.Val.{to_z, of_z}
 use Rattle.calmap.specs.code.Checked.{few_pixels}
-use Rattle.calmap.proofs.Signed.{plain, below-low, from_low}
+use Rattle.calmap.proofs.Signed.{plain, range-is}
 use Rattle.calmap.proofs.mapping.few_pixels.Goals as goal
-
-pub returns-then-v : goal.returns-then-v
-unfolding few_pixels
-returns-then-v c = sym (le-ltb _ _ (below-low 8191 c.args.v (subst (λ (z : ℤ). lt_z z (negsuc 8191) ≡ true) (plain c.ranges.v) c.if-v.true)))
 
 pub returns : goal.returns
 unfolding few_pixels
-returns c =
-    let e = plain c.ranges.v in
-    ap (λ (z : ℤ). lt_z z (pos 8192)) e ∙ from_low 8191 c.args.v (subst (λ (z : ℤ). lt_z z (negsuc 8191) ≡ false) e c.if-v.false)
+returns c = c.contains.ensures.value ∙ range-is 8191 (to_z w32 (of_z w32 c.args.v)) ∙ ap (λ (z : ℤ). few_pixels z) (plain c.ranges.v)

@@ -1,20 +1,59 @@
--- `calmap::mapping::line` meets its contract. Assumes nothing.
-use mathlib.Core.Path.{ap, ◌∙◌}
+-- `calmap::mapping::line` meets its contract: its steps, each where the one before has an answer, are those of `line-chain`
+-- (Chains). Assumes nothing.
+use mathlib.Core.Path.{sym, ap, ◌∙◌}
 use lib.IntN.{ℤ}
 use Rattle.calmap.specs.Units.{whole_steps, ◌·◌}
 use Rattle.calmap.specs.code.Checked.{narrow_of, plus_of}
-use Rattle.calmap.specs.declared.checked.Narrow.{Narrow}
-use Rattle.calmap.specs.declared.checked.Narrow.TheVariants.{In}
 use Rattle.calmap.proofs.Chains.{line-chain}
 use Rattle.calmap.proofs.Signed.{plain}
 use Rattle.calmap.proofs.mapping.line.Goals as goal
 
+pub returns-in_err-whole : goal.returns-in_err-whole
+unfolding plus_of
+returns-in_err-whole c =
+    let a = c.args in
+    let t = ap (λ (z : ℤ). narrow_of (whole_steps z)) (sym (plain c.ranges.v)) ∙ sym c.whole.ensures ∙ c.in_err-whole.was in
+    rw (c.from_residual.ensures, ← line-chain a.v a.p a.q a.k a.x a.y, t)
+
+pub returns-in_err-scaled : goal.returns-in_err-scaled
+unfolding plus_of
+returns-in_err-scaled c =
+    let a = c.args in
+    let t = ap (λ (z : ℤ). narrow_of (whole_steps z)) (sym (plain c.ranges.v)) ∙ sym c.whole.ensures ∙ c.in_ok-whole.was in
+    let u = ap (λ (z : ℤ). narrow_of (a.p · z)) (sym (plain c.ranges.x)) ∙ sym c.scaled.ensures ∙ c.in_err-scaled.was in
+    rw (c.from_residual-in_err-scaled.ensures, ← line-chain a.v a.p a.q a.k a.x a.y, t, u)
+
+pub returns-in_err-a : goal.returns-in_err-a
+unfolding plus_of
+returns-in_err-a c =
+    let a = c.args in
+    let t = ap (λ (z : ℤ). narrow_of (whole_steps z)) (sym (plain c.ranges.v)) ∙ sym c.whole.ensures ∙ c.in_ok-whole.was in
+    let u = ap (λ (z : ℤ). narrow_of (a.p · z)) (sym (plain c.ranges.x)) ∙ sym c.scaled.ensures ∙ c.in_ok-scaled.was in
+    rw (c.from_residual-in_err-a.ensures, ← line-chain a.v a.p a.q a.k a.x a.y, t, u, sym c.add.ensures ∙ c.in_err-a.was)
+
+pub returns-in_err-scaled-2 : goal.returns-in_err-scaled-2
+unfolding plus_of
+returns-in_err-scaled-2 c =
+    let a = c.args in
+    let t = ap (λ (z : ℤ). narrow_of (whole_steps z)) (sym (plain c.ranges.v)) ∙ sym c.whole.ensures ∙ c.in_ok-whole.was in
+    let u = ap (λ (z : ℤ). narrow_of (a.p · z)) (sym (plain c.ranges.x)) ∙ sym c.scaled.ensures ∙ c.in_ok-scaled.was in
+    let v = ap (λ (z : ℤ). narrow_of (a.q · z)) (sym (plain c.ranges.y)) ∙ sym c.scaled-2.ensures ∙ c.in_err-scaled-2.was in
+    rw (c.from_residual-in_err-scaled-2.ensures, ← line-chain a.v a.p a.q a.k a.x a.y, t, u, sym c.add.ensures ∙ c.in_ok-a.was, v)
+
+pub returns-in_err-b : goal.returns-in_err-b
+unfolding plus_of
+returns-in_err-b c =
+    let a = c.args in
+    let t = ap (λ (z : ℤ). narrow_of (whole_steps z)) (sym (plain c.ranges.v)) ∙ sym c.whole.ensures ∙ c.in_ok-whole.was in
+    let u = ap (λ (z : ℤ). narrow_of (a.p · z)) (sym (plain c.ranges.x)) ∙ sym c.scaled.ensures ∙ c.in_ok-scaled.was in
+    let v = ap (λ (z : ℤ). narrow_of (a.q · z)) (sym (plain c.ranges.y)) ∙ sym c.scaled-2.ensures ∙ c.in_ok-scaled-2.was in
+    rw (c.from_residual-in_err-b.ensures, ← line-chain a.v a.p a.q a.k a.x a.y, t, u, sym c.add.ensures ∙ c.in_ok-a.was, v, sym c.add-2.ensures ∙ c.in_err-b.was)
+
 pub returns : goal.returns
+unfolding plus_of
 returns c =
     let a = c.args in
-    let t = c.whole.ensures ∙ ap (λ (z : ℤ). narrow_of (whole_steps z)) (plain c.ranges.v) in
-    let u = c.scaled.ensures ∙ ap (λ (z : ℤ). narrow_of (a.p · z)) (plain c.ranges.x) in
-    let v = c.scaled-2.ensures ∙ ap (λ (z : ℤ). narrow_of (a.q · z)) (plain c.ranges.y) in
-    let tu = c.plus-a.ensures ∙ (λ i. plus_of (t i) (u i)) in
-    let tuv = c.plus-b.ensures ∙ (λ i. plus_of (tu i) (v i)) in
-    c.plus.ensures ∙ ap (λ (n : Narrow). plus_of n (In a.k)) tuv ∙ line-chain a.v a.p a.q a.k a.x a.y
+    let t = ap (λ (z : ℤ). narrow_of (whole_steps z)) (sym (plain c.ranges.v)) ∙ sym c.whole.ensures ∙ c.in_ok-whole.was in
+    let u = ap (λ (z : ℤ). narrow_of (a.p · z)) (sym (plain c.ranges.x)) ∙ sym c.scaled.ensures ∙ c.in_ok-scaled.was in
+    let v = ap (λ (z : ℤ). narrow_of (a.q · z)) (sym (plain c.ranges.y)) ∙ sym c.scaled-2.ensures ∙ c.in_ok-scaled-2.was in
+    rw (← line-chain a.v a.p a.q a.k a.x a.y, t, u, sym c.add.ensures ∙ c.in_ok-a.was, v, sym c.add-2.ensures ∙ c.in_ok-b.was) c.add-3.ensures

@@ -9,5 +9,5 @@ use Rattle.calmap.proofs.screens.down_sixteen.Goals as goal
 pub returns : goal.returns
 returns c =
     let q = c.args.q in
-    let f : SFits w32 q.0 = search (rules, c.struct_told-1.given) in
+    let f : SFits w32 q.0 = search rules in
     shift_is q.0 sixteen f

@@ -18,18 +18,18 @@ machine v s fv ev fs es = λ i. (plain fv ∙ ev) i +ℤ (plain fs ∙ es) i
 pub overflow_add-result : goal.overflow_add-result
 overflow_add-result c =
     let a = c.args in
-    let fv : SFits w32 c.of_u16.result = search rules in
+    let fv : SFits w32 c.from.result = search rules in
     let fs : SFits w32 c.down_sixteen.result = search rules in
     let small : a.v < 65536 = search rules in
     let f : SFits w32 a.s.0 = search rules in
-    subst (SFits w32) (sym (machine a.v a.s fv c.of_u16.ensures fs c.down_sixteen.ensures)) (record { sfits = moved-fits a.v a.s small f.sfits })
+    subst (SFits w32) (sym (machine a.v a.s fv c.from.ensures fs c.down_sixteen.ensures)) (record { sfits = moved-fits a.v a.s small f.sfits })
 
 pub returns : goal.returns
 returns c =
     let a = c.args in
-    let fv : SFits w32 c.of_u16.result = search rules in
+    let fv : SFits w32 c.from.result = search rules in
     let fs : SFits w32 c.down_sixteen.result = search rules in
     let small : a.v < 65536 = search rules in
     let f : SFits w32 a.s.0 = search rules in
-    let e = machine a.v a.s fv c.of_u16.ensures fs c.down_sixteen.ensures in
+    let e = machine a.v a.s fv c.from.ensures fs c.down_sixteen.ensures in
     plain (subst (SFits w32) (sym e) (record { sfits = moved-fits a.v a.s small f.sfits })) ∙ e

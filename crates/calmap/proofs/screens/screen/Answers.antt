@@ -11,8 +11,8 @@ use Rattle.calmap.proofs.screens.screen.Goals as goal
 pub returns : goal.returns
 returns c =
     let k = c.args.c in
-    let wx = c.of_u16-x in
-    let wy = c.of_u16-y in
+    let wx = c.from-x in
+    let wy = c.from-y in
     let fx : SFits w32 wx.result = search rules in
     let fy : SFits w32 wy.result = search rules in
     let ex = plain fx ∙ wx.ensures in

@@ -1,6 +1,4 @@
 -- `fingers::pair::keeps_order` meets its contract. Assumes nothing.
-use Rattle.panel.proofs.Follow.{follow}
-use Rattle.fingers.specs.Pairs.{keeps_order}
 use native.Mathlib.Omega.{arith}
 use borrow.Author.Rules.{rules}
 use Rattle.panel.proofs.Laws.{distance2-at-most}
@@ -27,7 +25,3 @@ overflow_add-crossed c =
       distance2-at-most 65535 s.r.a s.q (search rules) (search rules) (search rules) (search rules),
       distance2-at-most 65535 s.r.b s.p (search rules) (search rules) (search rules) (search rules),
     )
-
-pub returns : goal.returns
-unfolding keeps_order
-returns c = search (follow, ← c.apart2-4.ensures, ← c.apart2-3.ensures, ← c.apart2-2.ensures, ← c.apart2.ensures)

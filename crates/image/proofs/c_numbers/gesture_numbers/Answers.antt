@@ -17,7 +17,7 @@ unfolding gesture_numbers
 returns-in-LongPress c = c.at-in-LongPress.ensures ∙ sym (ap gesture_numbers c.in-LongPress.is)
 
 pub returns-in-Drag : goal.returns-in-Drag
-returns-in-Drag c = drag-numbers _ _ _ _ _ _ c.in-Drag.is c.axis_number.ensures c.between.ensures
+returns-in-Drag c = drag-numbers _ _ _ _ _ _ c.in-Drag.is c.from.ensures c.between.ensures
 
 pub returns-in-Grab : goal.returns-in-Grab
 unfolding gesture_numbers
@@ -64,7 +64,7 @@ unfolding gesture_numbers
 returns-in-Move c = c.between-in-Move.ensures ∙ sym (ap gesture_numbers c.in-Move.is)
 
 pub returns-in-Pinch : goal.returns-in-Pinch
-returns-in-Pinch c = pinch-numbers _ _ _ _ _ _ c.in-Pinch.is c.axis_number-in-Pinch.ensures c.spans.ensures
+returns-in-Pinch c = pinch-numbers _ _ _ _ _ _ c.in-Pinch.is c.from-in-Pinch.ensures c.spans.ensures
 
 pub returns-in-PinchEnd : goal.returns-in-PinchEnd
 returns-in-PinchEnd c = pinch-end-numbers _ _ _ _ c.in-PinchEnd.is c.bit.ensures c.counted-in-PinchEnd.ensures

@@ -3,12 +3,12 @@ use mathlib.Core.Path.{sym, ◌∙◌, ap}
 use Rattle.image.specs.Numbers.{log_numbers}
 use Rattle.image.proofs.c_numbers.log_numbers.Goals as goal
 
-pub returns-in-Silent : goal.returns-in-Silent
+pub returns-in-None : goal.returns-in-None
 unfolding log_numbers
-returns-in-Silent c = sym (ap log_numbers c.in-Silent.is)
+returns-in-None c = sym (ap log_numbers c.in-None.is)
 
-pub returns-in-Logged : goal.returns-in-Logged
+pub returns-in-Some : goal.returns-in-Some
 unfolding log_numbers
-returns-in-Logged c =
-    let l = c.in-Logged.l in
-    (λ i. record { letter = c.wide8.ensures i; argument = c.wide8-in-Logged.ensures i; x = c.wide16.ensures i; y = c.wide16-in-Logged.ensures i; time = l.time }) ∙ sym (ap log_numbers c.in-Logged.is)
+returns-in-Some c =
+    let l = c.in-Some.l in
+    (λ i. record { letter = c.from.ensures i; argument = c.from-in-Some.ensures i; x = c.from-in-Some-2.ensures i; y = c.from-in-Some-3.ensures i; time = l.time }) ∙ sym (ap log_numbers c.in-Some.is)

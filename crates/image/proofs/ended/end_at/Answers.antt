@@ -9,4 +9,4 @@ returns-then-n-eq0 c = search (follow, ← c.get1-n.ensures)
 
 pub returns : goal.returns
 unfolding end_from
-returns c = search (follow, ← c.get1-n.ensures, ← c.get8-time.ensures)
+returns c = search (follow, ← c.get1-n.ensures, ← c.get8.ensures)

@@ -3,10 +3,10 @@ use mathlib.Core.Path.{sym, ap}
 use Rattle.image.specs.Image.{end_number}
 use Rattle.image.proofs.ended.end_number.Goals as goal
 
-pub returns-in-Never : goal.returns-in-Never
+pub returns-in-None : goal.returns-in-None
 unfolding end_number
-returns-in-Never c = sym (ap end_number c.in-Never.is)
+returns-in-None c = sym (ap end_number c.in-None.is)
 
-pub returns-in-At : goal.returns-in-At
+pub returns-in-Some : goal.returns-in-Some
 unfolding end_number
-returns-in-At c = sym (ap end_number c.in-At.is)
+returns-in-Some c = sym (ap end_number c.in-Some.is)

@@ -1,8 +1,8 @@
 -- `image::fields::get4` meets its contract. Assumes nothing.
-use native.Mathlib.Omega.{arith}
+use mathlib.Core.Path.{◌∙◌, ap}
+use Rattle.std.specs.Int.{w32, from_le_bytes}
 use Rattle.image.proofs.Bytes.{read-4}
 use Rattle.image.proofs.fields.get4.Goals as goal
 
 pub returns : goal.returns
-returns c =
-    (read-4 _ _ _ _ _ _ c.wide8-b0.ensures.0 c.wide8-b1.ensures.0 c.wide8-b2.ensures.0 c.wide8-b3.ensures.0, omega arith)
+returns c = c.from_le_bytes.ensures ∙ ap (from_le_bytes w32) c.get.ensures ∙ read-4 _ _

@@ -1,6 +1,8 @@
 -- `image::fields::get8` meets its contract. Assumes nothing.
+use mathlib.Core.Path.{◌∙◌, ap}
+use Rattle.std.specs.Int.{w64, from_le_bytes}
 use Rattle.image.proofs.Bytes.{read-8}
 use Rattle.image.proofs.fields.get8.Goals as goal
 
 pub returns : goal.returns
-returns c = read-8 _ _ _ _ c.get4-low.ensures.0 c.get4-high.ensures.0
+returns c = c.from_le_bytes.ensures ∙ ap (from_le_bytes w64) c.get.ensures ∙ read-8 _ _

@@ -7,4 +7,4 @@ use Rattle.image.proofs.fields.put_flag.Goals as goal
 
 pub returns : goal.returns
 returns c =
-    c.put1.ensures ∙ ap (λ (n : ℕ). sets c.args.image.now c.args.at (bytes_of 1 n)) c.bit.ensures
+    c.put1.ensures ∙ ap (λ (n : ℕ). sets c.args.image.now c.args.place.at (bytes_of 1 n)) c.bit.ensures

@@ -11,4 +11,4 @@ use Rattle.image.proofs.fields.put_point.Goals as goal
 pub returns : goal.returns
 unfolding puts point_rows
 returns c =
-    c.put2-2.ensures ∙ ap (λ (area : List ℕ). sets area (c.args.at + 2) (bytes_of 2 c.args.p.y)) c.put2.ensures
+    c.put2-2.ensures ∙ ap (λ (area : List ℕ). sets area (c.args.place.at + 2) (bytes_of 2 c.args.p.y)) c.put2.ensures

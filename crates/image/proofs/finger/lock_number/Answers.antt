@@ -8,14 +8,14 @@ use Rattle.image.proofs.finger.lock_number.Goals as goal
 
 pub overflow_add-result : goal.overflow_add-result
 overflow_add-result c =
-    let e = c.axis_number.ensures in
-    let small = axis-small c.in-On.a in
+    let e = c.from.ensures in
+    let small = axis-small c.in-Some.a in
     record { fits = omega (arith, e, small) }
 
-pub returns-in-Free : goal.returns-in-Free
+pub returns-in-None : goal.returns-in-None
 unfolding lock_number
-returns-in-Free c = sym (ap lock_number c.in-Free.is)
+returns-in-None c = sym (ap lock_number c.in-None.is)
 
-pub returns-in-On : goal.returns-in-On
+pub returns-in-Some : goal.returns-in-Some
 unfolding lock_number
-returns-in-On c = ap (λ (n : ℕ). 1 + n) c.axis_number.ensures ∙ sym (ap lock_number c.in-On.is)
+returns-in-Some c = ap (λ (n : ℕ). 1 + n) c.from.ensures ∙ sym (ap lock_number c.in-Some.is)

@@ -9,4 +9,4 @@ returns-then-n-eq0 c = search (follow, ← c.get1-n.ensures)
 
 pub returns : goal.returns
 unfolding pairing_from
-returns c = search (follow, ← c.get1-n.ensures, ← c.pair_at-r.ensures)
+returns c = search (follow, ← c.get1-n.ensures, ← c.pair_at.ensures)

@@ -7,7 +7,7 @@ returns c =
     pair_put _ _ _ _ _ _ _ _ _
     c.put_point.ensures
     c.put_point-2.ensures
-    c.axis_number-number.ensures
+    c.from.ensures
     c.put1.ensures
     c.put2.ensures
     c.put_point-3.ensures

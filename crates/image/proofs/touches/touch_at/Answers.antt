@@ -9,12 +9,12 @@ returns-then-n-eq0 c = search (follow, ← c.get1-n.ensures)
 
 pub returns-then-n-eq-DOWN : goal.returns-then-n-eq-DOWN
 unfolding touch_from touch_at
-returns-then-n-eq-DOWN c = search (follow, ← c.get8-since.ensures, ← c.get_point-start.ensures, ← c.get1-n.ensures)
+returns-then-n-eq-DOWN c = search (follow, ← c.get8.ensures, ← c.get_point.ensures, ← c.get1-n.ensures)
 
 pub returns-then-n-eq-MULTI : goal.returns-then-n-eq-MULTI
 unfolding touch_from touch_at
 returns-then-n-eq-MULTI c =
-    search (follow, ← c.pairing_at-pair.ensures, ← c.multi_at-m.ensures, ← c.get1-n.ensures)
+    search (follow, ← c.pairing_at.ensures, ← c.multi_at.ensures, ← c.get1-n.ensures)
 
 pub returns : goal.returns
 unfolding touch_from touch_at

@@ -1,22 +1,35 @@
 -- `numbers::reading::next_number` meets its contract. Assumes nothing.
-use Prim.Native.Nat.{◌≤◌}
-use mathlib.Core.Path.{◌≡◌, sym, subst}
-use Rattle.panel.proofs.Follow.{follow}
-use Rattle.numbers.specs.Numbers.{number_from}
-use Rattle.numbers.specs.declared.reading.Value.{Value}
-use Rattle.numbers.proofs.Grouping.{number-most}
+use Rattle.std.specs.Prelude.{Ok}
+use Prim.Native.Nat.{ℕ, ◌+◌}
+use mathlib.Core.Path.{sym, ap, ◌∙◌}
+use native.Mathlib.Omega.{arith}
+use Rattle.numbers.specs.Sizes.{most_groups}
+use Rattle.numbers.specs.code.Groups.{judged_as}
+use Rattle.numbers.proofs.Grouping.{last-group, number-here, number-missing, number-most}
 use Rattle.numbers.proofs.reading.next_number.Goals as goal
 
-pub returns-in-At : goal.returns-in-At
-unfolding number_from
-returns-in-At c =
+-- one group is all of it
+pub returns-then-b-lt-HIGH_BIT : goal.returns-then-b-lt-HIGH_BIT
+returns-then-b-lt-HIGH_BIT c =
     let a = c.args in
-    let e : c.number_at.result ≡ number_from a.s.now a.c a.most = search (follow, ← c.number_at.ensures, c.in-At.is) in
-    record { value = e; v_le_most = subst (λ (r : Value). r.v ≤ a.most) (sym e) (number-most _ a.c a.most) }
+    let here = c.if-s-at.false in
+    let e =
+    c.within.ensures
+    ∙ ap (λ (v : ℕ). judged_as a.at a.most (Ok (v, a.at + 1))) c.from.ensures
+    ∙ ap (judged_as a.at a.most) (sym (last-group _ a.at most_groups (λ n. omega (arith, n)) here c.if-b-lt-HIGH_BIT.true))
+    ∙ number-here _ _ _ here (omega arith) in
+    record { value = e; v_le_most = number-most _ _ _ _ e }
 
-pub returns-in-Stop : goal.returns-in-Stop
-unfolding number_from
-returns-in-Stop c =
+pub returns-in-Ok : goal.returns-in-Ok
+returns-in-Ok c =
     let a = c.args in
-    let e : c.stop.result ≡ number_from a.s.now a.c a.most = search (follow, ← c.stop.ensures, c.in-Stop.is) in
-    record { value = e; v_le_most = subst (λ (r : Value). r.v ≤ a.most) (sym e) (number-most _ a.c a.most) }
+    let e = c.within-in-Ok.ensures ∙ ap (judged_as a.at a.most) c.in-Ok.ensures ∙ number-here _ _ _ c.if-s-at.false (omega arith) in
+    record { value = e; v_le_most = number-most _ _ _ _ e }
+
+pub returns-in-Err-clause-value : goal.returns-in-Err-clause-value
+returns-in-Err-clause-value c =
+    let a = c.args in
+    rw c.from-in-Err.ensures (ap (judged_as a.at a.most) c.in-Err.ensures ∙ number-here _ _ _ c.if-s-at.false (omega arith))
+
+pub returns-then-s-at-clause-value : goal.returns-then-s-at-clause-value
+returns-then-s-at-clause-value c = number-missing _ _ _ c.if-s-at.true

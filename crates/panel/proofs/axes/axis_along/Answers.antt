@@ -13,12 +13,12 @@ returns-then-x-y c = search follow
 
 pub returns-then-ay-ax : goal.returns-then-ay-ax
 unfolding axis_of
-returns-then-ay-ax c = search (follow, ← c.larger.ensures)
+returns-then-ay-ax c = search (follow, ← c.max.ensures)
 
-pub returns-then-larger-gt-LOCK_MAX : goal.returns-then-larger-gt-LOCK_MAX
+pub returns-else-ay-ax : goal.returns-else-ay-ax
 unfolding axis_of
-returns-then-larger-gt-LOCK_MAX c = search (follow, ← c.larger.ensures)
+returns-else-ay-ax c = search (follow, ← c.max.ensures)
 
 pub returns : goal.returns
 unfolding axis_of
-returns c = search (follow, ← c.larger.ensures)
+returns c = search (follow, ← c.max.ensures)

@@ -5,4 +5,4 @@ use Rattle.panel.proofs.distances.apart.Goals as goal
 
 pub returns : goal.returns
 unfolding distance
-returns c = search (follow, ← c.larger.ensures, ← c.gap-2.ensures, ← c.gap.ensures)
+returns c = search (follow, c.from.ensures, c.max.ensures, ← c.gap-2.ensures, ← c.gap.ensures)

@@ -7,6 +7,6 @@ pub returns-then-all_on_panel : goal.returns-then-all_on_panel
 unfolding centroid_of
 returns-then-all_on_panel c = search (follow, ← c.middle_of.ensures, ← c.all_on_panel.ensures)
 
-pub returns : goal.returns
+pub returns-else-all_on_panel : goal.returns-else-all_on_panel
 unfolding centroid_of
-returns c = search (follow, ← c.all_on_panel.ensures)
+returns-else-all_on_panel c = search (follow, ← c.all_on_panel.ensures)

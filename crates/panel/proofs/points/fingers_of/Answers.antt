@@ -3,10 +3,6 @@ use borrow.Author.Rules.{rules}
 use Rattle.panel.specs.Points.{fingers}
 use Rattle.panel.proofs.points.fingers_of.Goals as goal
 
-pub returns-then-n-lt-MAX_POINTS : goal.returns-then-n-lt-MAX_POINTS
+pub returns : goal.returns
 unfolding fingers
-returns-then-n-lt-MAX_POINTS c = search rules
-
-pub returns-else-n-lt-MAX_POINTS : goal.returns-else-n-lt-MAX_POINTS
-unfolding fingers
-returns-else-n-lt-MAX_POINTS c = search rules
+returns c = search rules

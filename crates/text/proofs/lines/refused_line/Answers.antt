@@ -8,6 +8,6 @@ pub returns : goal.returns
 unfolding ascii
 returns c =
     record {
-      written = refused-of c.args.i c.args.refusal c.number-a.ensures.written c.word-b.ensures.written c.value-c.ensures.written c.finish.ensures.written;
+      written = refused-of c.args.i c.args.why c.number.ensures.value c.number-a.ensures.written c.word-b.ensures.written c.value-c.ensures.written c.finish.ensures.written;
       upper_bound = omega (arith, c.number-a.ensures.upper_bound, c.word-b.ensures.value, c.value-c.ensures.upper_bound, c.finish.ensures.value);
     }

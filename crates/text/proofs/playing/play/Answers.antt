@@ -10,19 +10,19 @@ returns-then-out-s c =
     let p = no_room a.s.now a.out.now c.if-out-s.true in
     record { value = p.0; out_after = p.1 }
 
-pub records-to-requires : goal.records-to-requires
-records-to-requires c =
+pub records-requires : goal.records-requires
+records-requires c =
     let a = c.args in
-    (head-short a.s.now _ (sym c.head-c.ensures ∙ c.in-At.is), omega (arith, c.if-out-s.false))
+    (head-short a.s.now _ (sym c.head.ensures ∙ c.in-Ok.is), omega (arith, c.if-out-s.false))
 
-pub returns-in-At : goal.returns-in-At
-returns-in-At c =
+pub returns-in-Ok : goal.returns-in-Ok
+returns-in-Ok c =
     let a = c.args in
-    let p = played-records a.s.now a.out.now _ _ _ (sym c.head-c.ensures ∙ c.in-At.is) (omega (arith, c.if-out-s.false)) (c.records-to.ensures.written, c.records-to.ensures.upper_bound) in
+    let p = played-records a.s.now a.out.now _ _ _ (sym c.head.ensures ∙ c.in-Ok.is) (omega (arith, c.if-out-s.false)) (c.records.ensures.written, c.records.ensures.upper_bound) in
     record { value = p.0; out_after = p.1 }
 
-pub returns-in-Stop : goal.returns-in-Stop
-returns-in-Stop c =
+pub returns-in-Err : goal.returns-in-Err
+returns-in-Err c =
     let a = c.args in
-    let p = played-stop a.s.now a.out.now _ _ _ _ (sym c.head-c.ensures ∙ c.in-Stop.is) (omega (arith, c.if-out-s.false)) (c.stop_line-to.ensures.written, c.stop_line-to.ensures.upper_bound) in
+    let p = played-stop a.s.now a.out.now _ _ _ (sym c.head.ensures ∙ c.in-Err.is) (omega (arith, c.if-out-s.false)) (c.stop_line.ensures.written, c.stop_line.ensures.upper_bound) in
     record { value = p.0; out_after = p.1 }

@@ -10,6 +10,6 @@ bounds-out-at-2 c = simp length-set (omega arith)
 pub returns : goal.returns
 returns c =
     record {
-      written = letter-after c.args.out.now c.args.at _ _ c.letter-l.ensures;
+      written = letter-after c.args.out.now c.args.at _ _ c.letter.ensures;
       value = omega arith;
     }

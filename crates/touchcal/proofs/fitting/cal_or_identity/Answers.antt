@@ -1,19 +1,17 @@
 -- `touchcal::fitting::cal_or_identity` meets its contract. Assumes nothing.
+use Rattle.std.specs.Prelude.{Result, Ok, Err}
+use Rattle.std.proofs.Common.{◌≡◌, refl}
+use Rattle.std.specs.Result.{result_unwrap_or}
+use Rattle.calmap.specs.declared.units.Cal.{Cal}
+use Rattle.touchcal.specs.Floats.{identity}
 use Rattle.touchcal.specs.code.Arrays.{cal_or_identity}
+use Rattle.touchcal.specs.declared.solving.Unsolved.{Unsolved}
 use Rattle.touchcal.proofs.fitting.cal_or_identity.Goals as goal
 
-pub returns-in-Is : goal.returns-in-Is
+found : (s : Result Cal Unsolved) → result_unwrap_or s identity ≡ cal_or_identity s
 unfolding cal_or_identity
-returns-in-Is c = rw c.in-Is.is
+found (Ok c) = refl
+found (Err why) = refl
 
-pub returns-in-Few : goal.returns-in-Few
-unfolding cal_or_identity
-returns-in-Few c = rw c.in-Few.is c.no_cal.ensures
-
-pub returns-in-Line : goal.returns-in-Line
-unfolding cal_or_identity
-returns-in-Line c = rw c.in-Line.is c.no_cal-in-Line.ensures
-
-pub returns-in-Steep : goal.returns-in-Steep
-unfolding cal_or_identity
-returns-in-Steep c = rw c.in-Steep.is c.no_cal-in-Steep.ensures
+pub returns : goal.returns
+returns c = rw (c.unwrap_or.ensures, c.no_cal.ensures) (found c.args.s)

@@ -2,8 +2,8 @@
 use Rattle.panel.proofs.Follow.{follow}
 use Rattle.touchcal.proofs.fitting.judged_by.Goals as goal
 
-pub returns-then-is_over : goal.returns-then-is_over
-returns-then-is_over c = search (follow, c.in-Pass.is, ← c.is_over.ensures)
+pub returns-in-Pass : goal.returns-in-Pass
+returns-in-Pass c = search (follow, c.in-Pass.is, ← c.is_over.ensures)
 
-pub returns-else-is_over : goal.returns-else-is_over
-returns-else-is_over c = search (follow, c.in-Pass.is, ← c.is_over.ensures)
+pub returns-in_default : goal.returns-in_default
+returns-in_default c = search (follow, c.in-Pass.is, ← c.is_over.ensures)

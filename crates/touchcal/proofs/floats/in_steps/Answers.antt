@@ -1,39 +1,25 @@
 -- `touchcal::floats::in_steps` meets its contract. Assumes nothing.
-use Rattle.touchcal.specs.Floats.{steps_of, in_steps}
-use Rattle.touchcal.specs.Solutions.{stepped_of, first_refused}
+use Rattle.std.proofs.Common.{rules}
+use Rattle.touchcal.proofs.Reach.{stepped-by}
 use Rattle.touchcal.proofs.floats.in_steps.Goals as goal
 
-pub returns-in_default : goal.returns-in_default
-unfolding stepped_of steps_of in_steps first_refused
-returns-in_default c =
-    rw (← c.q16.ensures, c.in_default.is)
+pub returns-in_err-stepped : goal.returns-in_err-stepped
+returns-in_err-stepped c = search (rules, stepped-by, ← c.stepped.ensures)
 
-pub returns-in_default-q16 : goal.returns-in_default-q16
-unfolding stepped_of steps_of in_steps first_refused
-returns-in_default-q16 c =
-    rw (← c.q16.ensures, c.in-Answered.is, ← c.q16-2.ensures, c.in_default-q16.is)
+pub returns-in_err-stepped-2 : goal.returns-in_err-stepped-2
+returns-in_err-stepped-2 c = search (rules, stepped-by, ← c.stepped.ensures, ← c.stepped-2.ensures)
 
-pub returns-in_default-q16-2 : goal.returns-in_default-q16-2
-unfolding stepped_of steps_of in_steps first_refused
-returns-in_default-q16-2 c =
-    rw (← c.q16.ensures, c.in-Answered.is, ← c.q16-2.ensures, c.in-Answered-q16.is, ← c.q16-3.ensures, c.in_default-q16-2.is)
+pub returns-in_err-stepped-3 : goal.returns-in_err-stepped-3
+returns-in_err-stepped-3 c = search (rules, stepped-by, ← c.stepped.ensures, ← c.stepped-2.ensures, ← c.stepped-3.ensures)
 
-pub returns-in_default-q16-3 : goal.returns-in_default-q16-3
-unfolding stepped_of steps_of in_steps first_refused
-returns-in_default-q16-3 c =
-    rw (← c.q16.ensures, c.in-Answered.is, ← c.q16-2.ensures, c.in-Answered-q16.is, ← c.q16-3.ensures, c.in-Answered-q16-2.is, ← c.q16-4.ensures, c.in_default-q16-3.is)
+pub returns-in_err-stepped-4 : goal.returns-in_err-stepped-4
+returns-in_err-stepped-4 c = search (rules, stepped-by, ← c.stepped.ensures, ← c.stepped-2.ensures, ← c.stepped-3.ensures, ← c.stepped-4.ensures)
 
-pub returns-in_default-q16-4 : goal.returns-in_default-q16-4
-unfolding stepped_of steps_of in_steps first_refused
-returns-in_default-q16-4 c =
-    rw (← c.q16.ensures, c.in-Answered.is, ← c.q16-2.ensures, c.in-Answered-q16.is, ← c.q16-3.ensures, c.in-Answered-q16-2.is, ← c.q16-4.ensures, c.in-Answered-q16-3.is, ← c.q16-5.ensures, c.in_default-q16-4.is)
+pub returns-in_err-stepped-5 : goal.returns-in_err-stepped-5
+returns-in_err-stepped-5 c = search (rules, stepped-by, ← c.stepped.ensures, ← c.stepped-2.ensures, ← c.stepped-3.ensures, ← c.stepped-4.ensures, ← c.stepped-5.ensures)
 
-pub returns-in_default-q16-5 : goal.returns-in_default-q16-5
-unfolding stepped_of steps_of in_steps first_refused
-returns-in_default-q16-5 c =
-    rw (← c.q16.ensures, c.in-Answered.is, ← c.q16-2.ensures, c.in-Answered-q16.is, ← c.q16-3.ensures, c.in-Answered-q16-2.is, ← c.q16-4.ensures, c.in-Answered-q16-3.is, ← c.q16-5.ensures, c.in-Answered-q16-4.is, ← c.q16-6.ensures, c.in_default-q16-5.is)
+pub returns-in_err-stepped-6 : goal.returns-in_err-stepped-6
+returns-in_err-stepped-6 c = search (rules, stepped-by, ← c.stepped.ensures, ← c.stepped-2.ensures, ← c.stepped-3.ensures, ← c.stepped-4.ensures, ← c.stepped-5.ensures, ← c.stepped-6.ensures)
 
 pub returns : goal.returns
-unfolding stepped_of steps_of in_steps first_refused
-returns c =
-    rw (← c.q16.ensures, c.in-Answered.is, ← c.q16-2.ensures, c.in-Answered-q16.is, ← c.q16-3.ensures, c.in-Answered-q16-2.is, ← c.q16-4.ensures, c.in-Answered-q16-3.is, ← c.q16-5.ensures, c.in-Answered-q16-4.is, ← c.q16-6.ensures, c.in-Answered-q16-5.is)
+returns c = search (rules, stepped-by, ← c.stepped.ensures, ← c.stepped-2.ensures, ← c.stepped-3.ensures, ← c.stepped-4.ensures, ← c.stepped-5.ensures, ← c.stepped-6.ensures)

@@ -42,15 +42,15 @@ returns-then-s c =
     ∙ ap cut (sym (down_is s pre.0 pre.1 below)) ∙ ap cut (sym (if-true _ (s ⊖ half32) (s ⊕ half32) below))
 
 -- and not
-pub whole-requires-2 : goal.whole-requires-2
+pub whole-requires-else-s : goal.whole-requires-else-s
 unfolding of_bits
-whole-requires-2 c = up_ends c.args.s c.requires.0 c.requires.1 c.if-s.false
+whole-requires-else-s c = up_ends c.args.s c.requires.0 c.requires.1 c.if-s.false
 
-pub overflow_cast-result-2 : goal.overflow_cast-result-2
-overflow_cast-result-2 c = cut-in _ c.whole-2.ensures
+pub overflow_cast-result-else-s : goal.overflow_cast-result-else-s
+overflow_cast-result-else-s c = cut-in _ c.whole-else-s.ensures
 
-pub returns : goal.returns
+pub returns-else-s : goal.returns-else-s
 unfolding of_bits half_away
-returns c =
+returns-else-s c =
     let s = c.args.s in
-    to_z-of_z w32 (pos c.whole-2.result) (cut-in _ c.whole-2.ensures) ∙ c.whole-2.ensures ∙ ap cut (sym (if-false _ (s ⊖ half32) (s ⊕ half32) c.if-s.false))
+    to_z-of_z w32 (pos c.whole-else-s.result) (cut-in _ c.whole-else-s.ensures) ∙ c.whole-else-s.ensures ∙ ap cut (sym (if-false _ (s ⊖ half32) (s ⊕ half32) c.if-s.false))

@@ -7,6 +7,7 @@ use Rattle.touchcal.specs.Binary32.{◌⊗◌, cut}
 use Rattle.touchcal.specs.Sizes.{scale32}
 use Rattle.touchcal.specs.Floats.{q16_of, in_reach, nearest_step, half_away}
 use Rattle.touchcal.proofs.floats.q16.Goals as goal
+use Rattle.touchcal.proofs.floats.q16.Goals.{else-s-via-then-s+else-s-2, else-s-via-else-s}
 
 pub nearest-requires : goal.nearest-requires
 unfolding of_bits neg
@@ -19,10 +20,7 @@ returns-then-s-2 c =
     let z : to_z w32 (of_z w32 c.nearest.result) ≡ cut (half_away (c.args.v ⊗ scale32)) = to_z-of_z w32 c.nearest.result f ∙ c.nearest.ensures in
     search (follow, z)
 
-pub returns-else-s-2 : goal.returns-else-s-2
+pub returns : goal.returns
 unfolding of_bits neg q16_of in_reach nearest_step
-returns-else-s-2 c = search follow
-
-pub returns-else-s : goal.returns-else-s
-unfolding of_bits neg q16_of in_reach nearest_step
-returns-else-s c = search follow
+returns c =
+    elim c.else-s.branch [ else-s-via-then-s+else-s-2 w ↦ search follow | else-s-via-else-s w ↦ search follow ]

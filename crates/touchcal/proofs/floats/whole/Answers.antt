@@ -17,4 +17,4 @@ overflow_shr-result c = let r = reach c.args.t c.requires in omega (arith, r.low
 pub returns : goal.returns
 returns c =
     let held : T (fits binary32 c.args.t) = search rules in
-    whole_is c.args.t held c.requires.0 c.requires.1
+    rw c.from.ensures (whole_is c.args.t held c.requires.0 c.requires.1)

@@ -6,4 +6,4 @@ use Rattle.touchcal.proofs.lists.fit.Goals as goal
 
 pub returns : goal.returns
 returns c =
-    c.fit_held.ensures ∙ (λ i. fit_held (c.pairs_of-a.ensures i) (c.points_of-t.ensures i)) ∙ fit-of-held c.args.raw.now c.args.tgt.now c.args.targets.now
+    c.fit_held.ensures ∙ (λ i. fit_held (c.pairs_of.ensures i) (c.points_of.ensures i)) ∙ fit-of-held c.args.raw.now c.args.tgt.now c.args.targets.now

@@ -1,11 +1,20 @@
 -- `touchcal::scpi::scpi_put` meets its contract. Assumes nothing.
+use Rattle.std.proofs.Common.{rules}
 use Rattle.touchcal.specs.Scpi.{put_of}
 use Rattle.touchcal.proofs.scpi.scpi_put.Goals as goal
 
-pub returns-in-Answered : goal.returns-in-Answered
+pub returns-in_err-from_f32-clause-answer : goal.returns-in_err-from_f32-clause-answer
 unfolding put_of
-returns-in-Answered c = rw (← c.from_f32.ensures, c.in-Answered.is)
+returns-in_err-from_f32-clause-answer c = search (rules, ← c.from_f32.ensures)
 
-pub returns-in-Refused : goal.returns-in-Refused
+pub returns-in_err-from_f32-clause-after : goal.returns-in_err-from_f32-clause-after
 unfolding put_of
-returns-in-Refused c = rw (← c.from_f32.ensures, c.in-Refused.is, c.cleared-none.ensures)
+returns-in_err-from_f32-clause-after c = search (rules, ← c.from_f32.ensures)
+
+pub returns-clause-answer : goal.returns-clause-answer
+unfolding put_of
+returns-clause-answer c = search (rules, ← c.from_f32.ensures)
+
+pub returns-clause-after : goal.returns-clause-after
+unfolding put_of
+returns-clause-after c = search (rules, ← c.from_f32.ensures)

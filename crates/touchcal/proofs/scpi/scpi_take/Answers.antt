@@ -1,12 +1,22 @@
 -- `touchcal::scpi::scpi_take` meets its contract. Assumes nothing.
-use Rattle.panel.proofs.Follow.{follow}
-use Rattle.touchcal.specs.Scpi.{take_of}
+use Rattle.std.specs.Prelude.{Option, Some, None}
+use Rattle.std.proofs.Common.{◌≡◌, sym, refl, ◌∙◌}
+use Rattle.calmap.specs.declared.units.Cal.{Cal}
+use Rattle.touchcal.specs.Scpi.{clear, take_of}
 use Rattle.touchcal.proofs.scpi.scpi_take.Goals as goal
 
-pub returns-then-p : goal.returns-then-p
+given : (p : Option Cal) → (take_of p).answer ≡ p
 unfolding take_of
-returns-then-p c = search (follow, ← c.cleared-none.ensures)
+given (Some c) = refl
+given None = refl
 
-pub returns : goal.returns
+left : (p : Option Cal) → (take_of p).after ≡ clear
 unfolding take_of
-returns c = search (follow, ← c.cleared-none.ensures)
+left (Some c) = refl
+left None = refl
+
+pub returns-clause-answer : goal.returns-clause-answer
+returns-clause-answer c = c.take.ensures.value ∙ sym (given c.args.pending.now)
+
+pub returns-clause-after : goal.returns-clause-after
+returns-clause-after c = c.take.ensures.after ∙ sym (left c.args.pending.now)

@@ -1,6 +1,0 @@
--- `bench::fits::fit` is safe and ends.
-use Rattle.std.proofs.Common.{◌-◌}
-use Rattle.bench.proofs.fits.fit.Given as goal
-
-abbrev pub decreases-loop-i : goal.decreases-loop-i
-decreases-loop-i l = l.calls - l.i

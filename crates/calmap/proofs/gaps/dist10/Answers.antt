@@ -1,8 +1,0 @@
--- `calmap::gaps::dist10` meets its contract. Assumes nothing.
-use Rattle.calmap.proofs.gaps.dist10.Goals as goal
-
-pub returns-in-Squared : goal.returns-in-Squared
-returns-in-Squared c = rw (← c.gap_between.ensures, c.in-Squared.is, c.in_tenths.ensures)
-
-pub returns-in-Wide : goal.returns-in-Wide
-returns-in-Wide c = rw (← c.gap_between.ensures, c.in-Wide.is)
