@@ -8,6 +8,9 @@ use touchcal::{Fit, Unfit};
 // So many of the 64 places of each list are used: fit_of takes a list and its count.
 const TAPS: usize = 9;
 
+// What the row takes: two numbers for each tap, each of its targets and each check point.
+pub(crate) const NUMBERS: usize = 54;
+
 fn tap(x: u64, y: u64) -> Tap {
     Tap {
         x: signed16(x),
@@ -57,7 +60,7 @@ fn fitted(sum: u64, told: Result<Fit, Unfit>) -> u64 {
 }
 
 pub(crate) fn fit(held: &[u64], calls: u64) -> u64 {
-    if held.len() < 54 {
+    if held.len() < NUMBERS {
         return 0;
     }
     let mut list = pairs(&held[..18], &held[18..36]);

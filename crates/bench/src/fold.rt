@@ -2,6 +2,7 @@
 use calmap::Verdict;
 use gesture::Gesture;
 
+// By a name: how what comes back is joined is said once, as in the Rust beside it.
 pub(crate) fn with(sum: u64, v: u64) -> u64 {
     sum.wrapping_add(v)
 }

@@ -21,10 +21,10 @@ const INPUT_MOST: u64 = 4096;
 fn row(alloc: Global, s: &[u8], kind: u64, calls: u64, at: usize) -> Result<u64, AllocError> {
     match kind {
         1 => Ok(tracker::reports(&rounds::calls_at(alloc, s, at)?, calls)),
-        2 => rows::apply16(alloc, &values::all(alloc, s, at)?, calls),
-        3 => Ok(rows::isqrt(&values::all(alloc, s, at)?, calls)),
-        4 => rows::q16(alloc, &values::all(alloc, s, at)?, calls),
-        5 => Ok(fits::fit(&values::all(alloc, s, at)?, calls)),
+        2 => rows::apply16(alloc, &values::all(alloc, s, at, rows::LEAST)?, calls),
+        3 => Ok(rows::isqrt(&values::all(alloc, s, at, 0)?, calls)),
+        4 => rows::q16(alloc, &values::all(alloc, s, at, 0)?, calls),
+        5 => Ok(fits::fit(&values::all(alloc, s, at, fits::NUMBERS)?, calls)),
         6 => Ok(tracker::ticks(&rounds::calls_at(alloc, s, at)?, calls)),
         _ => Ok(0),
     }

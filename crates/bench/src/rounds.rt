@@ -32,16 +32,31 @@ fn timed(c: Call) -> Held {
     Held { event, time }
 }
 
-// All calls from a place on.
+fn unread() -> Held {
+    Held {
+        event: no_event(),
+        time: 0,
+    }
+}
+
+// All calls from a place on. What can't be read ends them, and counts as an empty report; so does it where there is
+// nothing to read.
 pub(crate) fn calls_at(alloc: Global, s: &[u8], at: usize) -> Result<Vec<Held>, AllocError> {
     let mut list = Vec::new(alloc);
     let mut at = at;
     for _ in 0..MOST {
+        if at >= s.len() {
+            break;
+        }
         let Ok((call, next)) = trace::next_record(s, at) else {
+            list.push(unread())?;
             break;
         };
         list.push(timed(call))?;
         at = next;
+    }
+    if list.is_empty() {
+        list.push(unread())?;
     }
     Ok(list)
 }

@@ -39,7 +39,10 @@ fn applied(told: Result<Spot, Refusal>) -> u64 {
     }
 }
 
-// Six steps, and then the points.
+// What the row takes at the least: six steps and a point.
+pub(crate) const LEAST: usize = 8;
+
+// Six steps, and then the points. Where a last number stands alone, it is the x of a point whose y is 0.
 pub(crate) fn apply16(alloc: Global, held: &[u64], calls: u64) -> Result<u64, AllocError> {
     let [c0, c1, c2, c3, c4, c5, rest @ ..] = held else {
         return Ok(0);
@@ -54,9 +57,11 @@ pub(crate) fn apply16(alloc: Global, held: &[u64], calls: u64) -> Result<u64, Al
         c5: step(c5),
     };
     let mut points = Vec::new(alloc);
-    for xy in rest.chunks_exact(2) {
-        if let [x, y] = xy {
-            points.push((signed32(*x), signed32(*y)))?;
+    for xy in rest.chunks(2) {
+        match xy {
+            [x, y] => points.push((signed32(*x), signed32(*y)))?,
+            [x] => points.push((signed32(*x), 0))?,
+            _ => {}
         }
     }
     let mut sum = 0;

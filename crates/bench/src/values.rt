@@ -4,9 +4,14 @@ use std::alloc::{AllocError, Global};
 // The most numbers that a row takes: three lists of nine points, and some to spare.
 const MOST: usize = 64;
 
-// All numbers from a place on. A reading loop like that of the calls (rounds.rt): a function of both would take what is
+// All numbers from a place on, and zeros for those that are missing of the first `least`. A reading loop like that of the calls (rounds.rt): a function of both would take what is
 // read, and how many at most, and be as long.
-pub(crate) fn all(alloc: Global, s: &[u8], at: usize) -> Result<Vec<u64>, AllocError> {
+pub(crate) fn all(
+    alloc: Global,
+    s: &[u8],
+    at: usize,
+    least: usize,
+) -> Result<Vec<u64>, AllocError> {
     let mut list = Vec::new(alloc);
     let mut at = at;
     for _ in 0..MOST {
@@ -16,23 +21,24 @@ pub(crate) fn all(alloc: Global, s: &[u8], at: usize) -> Result<Vec<u64>, AllocE
         list.push(v)?;
         at = next;
     }
+    for _ in list.len()..least {
+        list.push(0)?;
+    }
     Ok(list)
 }
 
-// A signed number is written 2v, or -2v - 1 below zero, as for the probe: std has no zigzag.
-fn signed(v: u64) -> i64 {
-    let half = (v / 2) as i64;
-    if v % 2 == 0 { half } else { -1 - half }
-}
-
+// A signed number is written 2v, or -2v - 1 below zero, as for the probe: std has no zigzag. What is beyond the width is
+// not looked at.
 pub(crate) fn signed32(v: u64) -> i32 {
-    i32::try_from(signed(v)).unwrap_or(0)
+    let half = (v / 2 % 2147483648) as i32;
+    if v % 2 == 0 { half } else { !half }
 }
 
 pub(crate) fn signed16(v: u64) -> i16 {
-    i16::try_from(signed(v)).unwrap_or(0)
+    let half = (v / 2 % 32768) as i16;
+    if v % 2 == 0 { half } else { !half }
 }
 
 pub(crate) fn low16(v: u64) -> u16 {
-    u16::try_from(v).unwrap_or(0)
+    (v % 65536) as u16
 }

@@ -81,7 +81,8 @@ fn spans(code: u64, axis: u8, span0: u16, span: u16) -> GestureNumbers
     }
 }
 
-// The code is 1 and the place in the Rust's list of gestures.
+// The code is 1 and the place in the Rust's list of gestures, by cases since the fields are taken out here; the log's
+// codes are private to gesture and count from 0.
 fn gesture_numbers(g: Gesture) -> GestureNumbers
     ensures { result ≡ gesture_numbers g }
 {

@@ -117,32 +117,22 @@ pub(crate) fn app_at(image: &Image) -> App
     }
 }
 
+#[tactic(auto, using(panel::proofs::Follow::follow), unfolding(crate::specs::code::Finger::one_checked))]
 pub(crate) fn one_checked(image: &Image) -> bool
     ensures { result ≡ one_checked image.now }
 {
-    if fields::is_flag(image, MOVED) {
-        if fields::is_flag(image, LONG_SENT) {
-            if fields::get1(image, AXIS) <= LOCK_MOST {
-                if fields::is_flag(image, GRABBED) {
-                    return fields::is_flag(image, EARLY);
-                }
-                return false;
-            }
-            return false;
-        }
-        return false;
-    }
-    false
+    fields::is_flag(image, MOVED)
+        && fields::is_flag(image, LONG_SENT)
+        && fields::get1(image, AXIS) <= LOCK_MOST
+        && fields::is_flag(image, GRABBED)
+        && fields::is_flag(image, EARLY)
 }
 
+#[tactic(auto, using(panel::proofs::Follow::follow), unfolding(crate::specs::code::Finger::app_checked))]
 pub(crate) fn app_checked(image: &Image) -> bool
     ensures { result ≡ app_checked image.now }
 {
-    if fields::is_flag(image, DIRECT) {
-        if fields::is_flag(image, CAPTURED) {
-            return fields::is_flag(image, RAW);
-        }
-        return false;
-    }
-    false
+    fields::is_flag(image, DIRECT)
+        && fields::is_flag(image, CAPTURED)
+        && fields::is_flag(image, RAW)
 }

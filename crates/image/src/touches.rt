@@ -211,81 +211,59 @@ pub(crate) fn touch_at(image: &Image) -> Touch
     Touch::Residual
 }
 
+#[tactic(auto, using(panel::proofs::Follow::follow), unfolding(crate::specs::code::Touches::no_down, crate::specs::code::Numbers::is_zero))]
 fn no_down(image: &Image) -> bool
     ensures { result ≡ no_down image.now }
 {
-    if fields::get4(image, START) == 0 {
-        return fields::is_zero8(image, SINCE);
-    }
-    false
+    fields::get4(image, START) == 0 && fields::is_zero8(image, SINCE)
 }
 
 // Not even the mark that there is a pair.
+#[tactic(auto, using(panel::proofs::Follow::follow), unfolding(crate::specs::code::Touches::no_multi, crate::specs::code::Numbers::is_zero))]
 fn no_multi(image: &Image) -> bool
     ensures { result ≡ no_multi image.now }
 {
-    if fields::is_zero8(image, MULTI_FIRST) {
-        if fields::is_zero8(image, MULTI_SECOND) {
-            if fields::is_zero8(image, MULTI_THIRD) {
-                return fields::get2(image, MULTI_LAST) == 0;
-            }
-            return false;
-        }
-        return false;
-    }
-    false
+    fields::is_zero8(image, MULTI_FIRST)
+        && fields::is_zero8(image, MULTI_SECOND)
+        && fields::is_zero8(image, MULTI_THIRD)
+        && fields::get2(image, MULTI_LAST) == 0
 }
 
+#[tactic(auto, using(panel::proofs::Follow::follow), unfolding(crate::specs::code::Touches::no_pair))]
 fn no_pair(image: &Image) -> bool
     ensures { result ≡ no_pair image.now }
 {
-    if fields::is_zero8(image, PAIR_FIRST) {
-        return fields::is_zero8(image, PAIR_SECOND);
-    }
-    false
+    fields::is_zero8(image, PAIR_FIRST) && fields::is_zero8(image, PAIR_SECOND)
 }
 
+#[tactic(auto, using(panel::proofs::Follow::follow), unfolding(crate::specs::code::Touches::pairing_checked))]
 fn pairing_checked(image: &Image) -> bool
     ensures { result ≡ pairing_checked image.now }
 {
     let n = fields::get1(image, PAIRS);
     if n == 0 {
-        return no_pair(image);
+        no_pair(image)
+    } else {
+        n == PRESENT && fields::is_flag(image, PAIR_AXIS)
     }
-    if n == PRESENT {
-        return fields::is_flag(image, PAIR_AXIS);
-    }
-    false
 }
 
 // No touch of several fingers.
+#[tactic(auto, using(panel::proofs::Follow::follow), unfolding(crate::specs::code::Touches::single_checked))]
 fn single_checked(image: &Image, n: u8) -> bool
     ensures { result ≡ single_checked image.now n }
 {
-    if no_multi(image) {
-        if no_pair(image) {
-            if n == DOWN {
-                return true;
-            }
-            return no_down(image);
-        }
-        return false;
-    }
-    false
+    no_multi(image) && no_pair(image) && (n == DOWN || no_down(image))
 }
 
+#[tactic(auto, using(panel::proofs::Follow::follow), unfolding(crate::specs::code::Touches::touch_checked))]
 pub(crate) fn touch_checked(image: &Image) -> bool
     ensures { result ≡ touch_checked image.now }
 {
     let n = fields::get1(image, TOUCH);
     if n == MULTI {
-        if no_down(image) {
-            return pairing_checked(image);
-        }
-        return false;
+        no_down(image) && pairing_checked(image)
+    } else {
+        n <= RESIDUAL && single_checked(image, n)
     }
-    if n <= RESIDUAL {
-        return single_checked(image, n);
-    }
-    false
 }

@@ -41,30 +41,22 @@ pub(crate) fn tracker_at(image: &Image) -> Tracker
     }
 }
 
+#[tactic(auto, using(panel::proofs::Follow::follow), unfolding(crate::specs::code::Whole::rest_checked))]
 fn rest_checked(image: &Image) -> bool
     ensures { result ≡ rest_checked image.now }
 {
-    if finger::one_checked(image) {
-        if finger::app_checked(image) {
-            if ended::end_checked(image) {
-                return settings::settings_checked(image);
-            }
-            return false;
-        }
-        return false;
-    }
-    false
+    finger::one_checked(image)
+        && finger::app_checked(image)
+        && ended::end_checked(image)
+        && settings::settings_checked(image)
 }
 
 // Whether an area of the image's length is an image: a number that has few values has one of them, and a part that is
-// absent is zero. Every other number stands for itself. Here and in the parts tests are joined by ifs inside one
-// another: of these the compiler makes flags, of `&` jumps. It was `&` alone that they were held against; with `&&`,
-// which means what they do, it was not tried.
+// absent is zero. Every other number stands for itself. Tests are joined by `&&` here and in the parts: of `&` the
+// compiler makes jumps.
+#[tactic(auto, using(panel::proofs::Follow::follow), unfolding(crate::specs::code::Whole::image_checked))]
 pub(crate) fn is_image(image: &Image) -> bool
     ensures { result ≡ image_checked image.now }
 {
-    if touches::touch_checked(image) {
-        return rest_checked(image);
-    }
-    false
+    touches::touch_checked(image) && rest_checked(image)
 }

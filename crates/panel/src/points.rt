@@ -12,6 +12,7 @@ pub const HEIGHT: u16 = 320;
 pub const MAX_POINTS: usize = 5;
 
 // A place in pixels, from the upper left corner. Any two numbers: on_panel says whether it is on the panel.
+// No Default: (0, 0) is a place like any other, and is written out where it is meant.
 #[derive(Clone, Copy, PartialEq, Eq)]
 pub struct Point {
     pub x: u16,

@@ -80,8 +80,8 @@ fn totals(pairs: &[Aim]) -> Means
     t
 }
 
-// The totals shared out among n. That n is at most 64 is handed down to here and to `moments_of` from fit_by, which
-// tests it; up to there `n as f32` is exact.
+// The totals shared out among n. That n is at most 64 is handed down to here, to `moments_of` and to `solve` from
+// fit_by, which tests it; up to there `n as f32` is exact.
 fn shared(t: Means, n: usize) -> Means
     requires { n ≤ longest }
     ensures { result ≡ shared_of t n }
