@@ -4,9 +4,9 @@ s/let mut t = touched(\*first);/let mut out = [0u64; image::ANSWER_NUMBERS];\n  
 s/let a = reported(t, h\.event, h\.time);/event(\&mut t, h.event, h.time, \&mut out);/
 s/let a = gesture::tick(t, h\.time);/host::touch_tick(\&mut t, h.time, \&mut out);/
 /t = a\.tracker;/d
-s/if let Ok(r) = a\.told {/{/
-s/fold::given(r\.gesture)/out[0]/
-s/r\.log/log_of(out)/
+s/if let Ok(r) = &a\.told {/{/
+s/fold::given(&r\.gesture)/out[0]/
+s/&r\.log/\&log_of(out)/
 $a\
 \
 fn fresh() -> [u8; image::IMAGE_BYTES] {\

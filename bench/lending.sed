@@ -2,4 +2,4 @@
 s/gesture::tick(t, /lent::tick(\&mut t, /
 s/= reported(t, /= lent::event(\&mut t, /
 /t = a\.tracker;/d
-s/= a\.told/= a/
+s/= &a\.told/= \&a/

@@ -35,8 +35,11 @@ fn code(g: Gesture) -> u64 {
     }
 }
 
-pub(crate) fn given(g: Option<Gesture>) -> u64 {
-    g.map_or(0, code)
+pub(crate) fn given(g: &Option<Gesture>) -> u64 {
+    match g {
+        None => 0,
+        Some(g) => code(*g),
+    }
 }
 
 pub(crate) fn verdict(v: Verdict) -> u64 {

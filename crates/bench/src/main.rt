@@ -1,6 +1,10 @@
 // Makes the calls that bench/run counts the instructions of. Standard input has numbers as in the trace: which row,
 // how many calls, and then what the row takes. What comes back of each call goes into
 // one number, which is printed: the Rust beside it prints the same.
+//
+// Nothing comes from the heap: what is read stands in arrays, with a count of the places in use. So no row can run out of
+// memory, and the loops that are counted find the array at the stack pointer: the pointer and the length of a vector, spilled
+// there, took five instructions more for a report of keys.
 #![tactic(auto)]
 
 mod fits;
@@ -10,40 +14,65 @@ mod rows;
 mod tracker;
 mod values;
 
-use std::alloc::{AllocError, Global};
+ghost use Rattle.std.specs.Prelude.{◌+◌, ◌≤◌, length, IfOk};
+ghost use Rattle.std.specs.Counts.{IsPrefixLen};
+
 use std::io;
-use std::io::Read;
+use std::io::{Read, Stdin};
 
 // What standard input may have; more is not read.
-const INPUT_MOST: u64 = 4096;
+const INPUT_MOST: usize = 4096;
+
+// One read into the room from a place on: how many bytes came, none where the input ends.
+fn read_on(from: &mut Stdin, room: &mut [u8], at: usize) -> io::Result<usize>
+    requires { at ≤ length room.old }
+    ensures { IfOk result (λ n. at + n ≤ length room.old) }
+{
+    from.read(&mut room[at..])
+}
+
+// Reads until the room is full or the input ends: how many bytes stand at its start.
+fn read_full(from: &mut Stdin, room: &mut [u8]) -> io::Result<usize>
+    ensures { IfOk result (λ n. IsPrefixLen n room.new) }
+{
+    let mut n = 0;
+    while n < room.len() {
+        let more = read_on(from, room, n)?;
+        if more == 0 {
+            return Ok(n);
+        }
+        n += more;
+    }
+    Ok(n)
+}
 
 // A row by its number, which is its name outside.
-fn row(alloc: Global, s: &[u8], kind: u64, calls: u64, at: usize) -> Result<u64, AllocError> {
+fn row(s: &[u8], kind: u64, calls: u64, at: usize) -> u64 {
     match kind {
-        1 => Ok(tracker::reports(&rounds::calls_at(alloc, s, at)?, calls)),
-        2 => rows::apply16(alloc, &values::all(alloc, s, at, rows::LEAST)?, calls),
-        3 => Ok(rows::isqrt(&values::all(alloc, s, at, 0)?, calls)),
-        4 => rows::q16(alloc, &values::all(alloc, s, at, 0)?, calls),
-        5 => Ok(fits::fit(&values::all(alloc, s, at, fits::NUMBERS)?, calls)),
-        6 => Ok(tracker::ticks(&rounds::calls_at(alloc, s, at)?, calls)),
-        _ => Ok(0),
+        1 => tracker::reports(rounds::calls_at(s, at).in_use(), calls),
+        2 => rows::apply16(values::all(s, at, rows::LEAST).in_use(), calls),
+        3 => rows::isqrt(values::all(s, at, 0).in_use(), calls),
+        4 => rows::q16(values::all(s, at, 0).in_use(), calls),
+        5 => fits::fit(values::all(s, at, fits::NUMBERS).in_use(), calls),
+        6 => tracker::ticks(rounds::calls_at(s, at).in_use(), calls),
+        _ => 0,
     }
 }
 
 // 0 where there is no row.
-fn measured(alloc: Global, s: &[u8]) -> Result<u64, AllocError> {
-    let Ok((kind, at)) = numbers::next_number(s, 0, numbers::MOST_64) else {
-        return Ok(0);
+fn measured(s: &[u8]) -> u64 {
+    let Ok((kind, at)) = numbers::number_at(s, 0, numbers::MOST_64) else {
+        return 0;
     };
-    let Ok((calls, at)) = numbers::next_number(s, at, numbers::MOST_64) else {
-        return Ok(0);
+    let Ok((calls, at)) = numbers::number_at(s, at, numbers::MOST_64) else {
+        return 0;
     };
-    row(alloc, s, kind, calls, at)
+    row(s, kind, calls, at)
 }
 
 fn main(rt: HostRuntime) -> io::Result<()> {
-    let mut input = Vec::new(rt.alloc());
-    rt.stdin().take(INPUT_MOST).read_to_end(&mut input)?;
-    let sum = measured(rt.alloc(), &input)?;
+    let mut room = [0u8; INPUT_MOST];
+    let n = read_full(&mut rt.stdin(), &mut room)?;
+    let sum = measured(&room[..n]);
     print!(rt; "{sum}")
 }

@@ -1,9 +1,9 @@
 // The calls on a tracker that a row makes again and again, read once.
+use crate::values;
 use gesture::Call;
 use panel::{Event, MAX_POINTS, Point};
-use std::alloc::{AllocError, Global};
 
-const MOST: usize = 16;
+const PLACES: usize = 16;
 
 // A report, an empty one for a tick, and its time. No Call: the two rows have a loop each, which calls event or tick
 // itself (tracker.rt), and by a Call each would ask which of the two it is, with both in one loop (docs/BENCH.md).
@@ -39,24 +39,35 @@ fn unread() -> Held {
     }
 }
 
+// So many of them are in use.
+#[derive(Clone, Copy)]
+pub(crate) struct Calls {
+    places: [Held; PLACES],
+    count: usize,
+}
+
+impl Calls {
+    pub(crate) fn in_use(&self) -> &[Held] {
+        values::first(&self.places, self.count)
+    }
+}
+
 // All calls from a place on. What can't be read ends them, and counts as an empty report; so does it where there is
 // nothing to read.
-pub(crate) fn calls_at(alloc: Global, s: &[u8], at: usize) -> Result<Vec<Held>, AllocError> {
-    let mut list = Vec::new(alloc);
+pub(crate) fn calls_at(s: &[u8], at: usize) -> Calls {
+    let mut places = [unread(); PLACES];
+    let mut count = 1;
     let mut at = at;
-    for _ in 0..MOST {
+    for (i, place) in places.iter_mut().enumerate() {
         if at >= s.len() {
             break;
         }
+        count = i + 1;
         let Ok((call, next)) = trace::next_record(s, at) else {
-            list.push(unread())?;
             break;
         };
-        list.push(timed(call))?;
+        *place = timed(call);
         at = next;
     }
-    if list.is_empty() {
-        list.push(unread())?;
-    }
-    Ok(list)
+    Calls { places, count }
 }

@@ -1,10 +1,9 @@
 // The rows of the calibration: each call takes the next of the numbers that are held. A loop each, in which the call
 // that is counted stands itself.
 use crate::fold;
-use crate::values::signed32;
+use crate::values::{PLACES, first, signed32};
 use calmap::{Cal, Q16, Spot};
 use panel::Refusal;
-use std::alloc::{AllocError, Global};
 
 pub(crate) fn isqrt(held: &[u64], calls: u64) -> u64 {
     let mut sum = 0;
@@ -23,13 +22,16 @@ fn stepped(told: Result<Q16, Refusal>) -> u64 {
     told.map_or(1, |n| fold::signed(n.0))
 }
 
-pub(crate) fn q16(alloc: Global, held: &[u64], calls: u64) -> Result<u64, AllocError> {
-    let floats: Vec<f32> = held.iter().map(|v| float(*v)).collect(alloc)?;
+pub(crate) fn q16(held: &[u64], calls: u64) -> u64 {
+    let mut floats = [0.0; PLACES];
+    for (x, v) in floats.iter_mut().zip(held) {
+        *x = float(*v);
+    }
     let mut sum = 0;
-    for (_, x) in (0..calls).zip(floats.iter().cycle()) {
+    for (_, x) in (0..calls).zip(first(&floats, held.len()).iter().cycle()) {
         sum = fold::with(sum, stepped(touchcal::q16(*x)));
     }
-    Ok(sum)
+    sum
 }
 
 fn applied(told: Result<Spot, Refusal>) -> u64 {
@@ -43,9 +45,9 @@ fn applied(told: Result<Spot, Refusal>) -> u64 {
 pub(crate) const LEAST: usize = 8;
 
 // Six steps, and then the points. Where a last number stands alone, it is the x of a point whose y is 0.
-pub(crate) fn apply16(alloc: Global, held: &[u64], calls: u64) -> Result<u64, AllocError> {
+pub(crate) fn apply16(held: &[u64], calls: u64) -> u64 {
     let [c0, c1, c2, c3, c4, c5, rest @ ..] = held else {
-        return Ok(0);
+        return 0;
     };
     let step = |v: &u64| Q16(signed32(*v));
     let c = Cal {
@@ -56,18 +58,19 @@ pub(crate) fn apply16(alloc: Global, held: &[u64], calls: u64) -> Result<u64, Al
         c4: step(c4),
         c5: step(c5),
     };
-    let mut points = Vec::new(alloc);
-    for xy in rest.chunks(2) {
+    let mut points = [(0, 0); PLACES];
+    let pairs = rest.chunks(2);
+    for (p, xy) in points.iter_mut().zip(pairs) {
         match xy {
-            [x, y] => points.push((signed32(*x), signed32(*y)))?,
-            [x] => points.push((signed32(*x), 0))?,
+            [x, y] => *p = (signed32(*x), signed32(*y)),
+            [x] => p.0 = signed32(*x),
             _ => {}
         }
     }
     let mut sum = 0;
-    for (_, p) in (0..calls).zip(points.iter().cycle()) {
+    for (_, p) in (0..calls).zip(first(&points, rest.len().div_ceil(2)).iter().cycle()) {
         let (x, y) = *p;
         sum = fold::with(sum, applied(calmap::apply16(c, x, y)));
     }
-    Ok(sum)
+    sum
 }

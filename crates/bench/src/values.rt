@@ -1,30 +1,44 @@
 // The numbers that a row of the calibration takes.
-use std::alloc::{AllocError, Global};
 
 // The most numbers that a row takes: three lists of nine points, and some to spare.
-const MOST: usize = 64;
+pub(crate) const PLACES: usize = 64;
 
-// All numbers from a place on, and zeros for those that are missing of the first `least`. A reading loop like that of the calls (rounds.rt): a function of both would take what is
-// read, and how many at most, and be as long.
-pub(crate) fn all(
-    alloc: Global,
-    s: &[u8],
-    at: usize,
-    least: usize,
-) -> Result<Vec<u64>, AllocError> {
-    let mut list = Vec::new(alloc);
+// So many of them are in use; behind them stand zeros.
+#[derive(Clone, Copy)]
+pub(crate) struct Numbers {
+    places: [u64; PLACES],
+    count: usize,
+}
+
+impl Numbers {
+    pub(crate) fn in_use(&self) -> &[u64] {
+        first(&self.places, self.count)
+    }
+}
+
+// The first n of a list, or all where it has no more.
+pub(crate) fn first<T>(list: &[T], n: usize) -> &[T] {
+    &list[..n.min(list.len())]
+}
+
+// All numbers from a place on, and zeros for those that are missing of the first `least`. A reading loop like that of the
+// calls (rounds.rt): a function of both would take what is read, and how many at most, and be as long.
+pub(crate) fn all(s: &[u8], at: usize, least: usize) -> Numbers {
+    let mut places = [0; PLACES];
+    let mut count = 0;
     let mut at = at;
-    for _ in 0..MOST {
-        let Ok((v, next)) = numbers::next_number(s, at, numbers::MOST_64) else {
+    for (i, place) in places.iter_mut().enumerate() {
+        let Ok((v, next)) = numbers::number_at(s, at, numbers::MOST_64) else {
             break;
         };
-        list.push(v)?;
+        *place = v;
+        count = i + 1;
         at = next;
     }
-    for _ in list.len()..least {
-        list.push(0)?;
+    Numbers {
+        places,
+        count: count.max(least),
     }
-    Ok(list)
 }
 
 // A signed number is written 2v, or -2v - 1 below zero, as for the probe: std has no zigzag.

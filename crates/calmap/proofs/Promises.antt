@@ -23,7 +23,7 @@ use Rattle.calmap.specs.Resids.{Misses, pairs_of, known, wide, miss_of, misses_o
 use Rattle.calmap.specs.Roots.{IsRoot, root_of}
 use Rattle.calmap.specs.Screening.{nudge, nudge_fits, moved, screen_of, told_screen}
 use Rattle.calmap.specs.Sizes.{longest}
-use Rattle.calmap.specs.Units.{sixteenths, tenths, down_twelve, ◌⊟◌, sixteenths_fit, farther_of}
+use Rattle.calmap.specs.Units.{sixteenths, tenths, in_sixteenths, down_twelve, ◌⊟◌, sixteenths_fit, farther_of}
 use Rattle.calmap.specs.Wide.{in16}
 use Rattle.calmap.specs.code.Arrays.{held_points, held_pairs, resid_held, check_held}
 use Rattle.calmap.specs.declared.arrays.Held.{Held}
@@ -123,6 +123,17 @@ check-of-tells c n ps = if-of told_check _ _ _
 
 pub isqrt-unique : (v : ℕ) {r s : ℕ} → r ≡ root_of v → s ≡ root_of v → r ≡ s
 isqrt-unique v = one_answer
+
+-- the coordinate of a point and that of a tap, in sixteenths
+pub of-point-unique : (v : ℕ) {r s : Sixteenths} → r ≡ in_sixteenths (pos v) → s ≡ in_sixteenths (pos v) → r ≡ s
+of-point-unique v = one_answer
+
+pub of-tap-unique : (v : ℤ) {r s : Sixteenths} → r ≡ in_sixteenths v → s ≡ in_sixteenths v → r ≡ s
+of-tap-unique v = one_answer
+
+-- in_tenths of the rule of the calls. Its contract has a bound besides, as square's has: so of any rule
+pub tenths-unique : (d2 : ℕ) {r s : Tenths} → r ≡ tenths_of d2 → s ≡ tenths_of d2 → r ≡ s
+tenths-unique d2 = one_answer
 
 pub gap-unique : (ax ay bx by : Sixteenths) {r s : Option ℕ} → r ≡ gap_of ax ay bx by → s ≡ gap_of ax ay bx by → r ≡ s
 gap-unique ax ay bx by = one_answer

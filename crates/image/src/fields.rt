@@ -2,7 +2,7 @@
 // number of one. Each place is a constant where these are called, so that the bytes of a number are loaded and stored
 // at once.
 //
-// A function for each width, of one line over the generic `put` and `get` but for `put8`. Each contract names its width
+// A function for each width, of one line over the generic `put` and `get` but for `put8` and `get1`. Each contract names its width
 // (`bytes_of 2 v`, `number_at image.now place.at 2`), and a trait over the number types would be an impl of the same
 // line for each of them, with its laws besides: longer, and no plainer.
 ghost use Rattle.std.specs.Prelude.{◌≡◌, ◌+◌, ◌≤◌, take, drop};

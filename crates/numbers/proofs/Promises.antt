@@ -10,7 +10,7 @@ use Rattle.panel.proofs.Follow.{if-of, if-true}
 use Rattle.panel.proofs.Promises.{one_answer}
 use Rattle.panel.specs.Refusals.{Told}
 use Rattle.panel.specs.Tests.{when◌then◌else◌, ◌≤?◌, ◌<?◌}
-use Rattle.numbers.specs.Numbers.{whole, endless, early, bytes_of, value_of, needless, judged, number_at, told_to}
+use Rattle.numbers.specs.Numbers.{whole, endless, early, bytes_of, value_of, needless, judged, number_at, number_from, told_to}
 use Rattle.numbers.specs.Writing.{wrote_of, written_of, told_write}
 use Rattle.numbers.specs.declared.reading.Stop.{Stop}
 use Rattle.panel.specs.declared.refusals.Refusal.{Refusal}
@@ -48,6 +48,10 @@ module _ (room : List ℕ) (at : ℕ) (bytes : List ℕ) where
 pub number-unique : (bytes : List ℕ) (at most : ℕ) {r s : Result (ℕ × ℕ) Stop} → r ≡ number_at bytes at most → s ≡ number_at bytes at most → r ≡ s
 number-unique bytes at most = one_answer
 
+pub number-from-unique : (bytes : List ℕ) (from : Result ℕ Stop) (most : ℕ) {r s : Result (ℕ × ℕ) Stop} → r ≡ number_from bytes from most → s ≡ number_from bytes from most → r ≡ s
+number-from-unique bytes from most = one_answer
+
+-- a byte and a coordinate as 64 bits: the library's `u64::from`, whose law is that it is the same number
 pub wide-unique : (x : ℕ) {r s : ℕ} → r ≡ x → s ≡ x → r ≡ s
 wide-unique x = one_answer
 

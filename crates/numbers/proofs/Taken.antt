@@ -1,5 +1,6 @@
 -- What the reader takes as a number is what the writer writes for it: the shortest form is the only one.
 -- Assumes nothing.
+use Rattle.std.specs.Prelude.{Result, Ok, Err}
 use Prim.Native.Nat.{ℕ, zero, suc, ◌+◌, ◌-◌, ◌*◌, ◌/◌, ◌%◌, ◌≤◌, ◌<◌, min}
 use mathlib.Core.Path.{◌≡◌, refl, sym, ap, subst, ◌∙◌}
 use mathlib.Core.Bool.{Bool, true, false}
@@ -13,8 +14,9 @@ use Rattle.panel.proofs.Follow.{if-true, if-false}
 use Rattle.panel.specs.Tests.{◌and◌}
 use Rattle.panel.specs.declared.refusals.Refusal.{Refusal}
 use Rattle.panel.specs.declared.refusals.Refusal.TheVariants.{Cut, Form, Big}
-use Rattle.numbers.specs.Numbers.{Groups, whole, endless, early, after, groups_by, bytes_of, groups_in, value_of, needless, judged, read, stopped, number_at}
+use Rattle.numbers.specs.Numbers.{Groups, whole, endless, early, after, groups_by, bytes_of, groups_in, value_of, needless, judged, read, stopped, number_at, number_from}
 use Rattle.numbers.specs.Sizes.{group, most_groups}
+use Rattle.numbers.specs.declared.reading.Stop.{Stop}
 use Rattle.numbers.proofs.Back.{last-in, more-in}
 use Rattle.numbers.proofs.Bytes.{by-lt, groups-one, groups-step}
 use Rattle.numbers.proofs.Grouping.{longer, not-zero, value-more, value-one}
@@ -194,3 +196,9 @@ number-took s at most v next oc e =
               ∙ ap (λ (l : List ℕ). groups_by most_groups v ++ l) (drop-drop many at s ∙ ap (λ (k : ℕ). drop k s) (sym to));
           ends = omega (arith, raw-length g gs, ap length w);
         }
+
+-- and one that was read where an earlier reading had come to: that one had not stopped
+pub number-took-from : (s : List ℕ) (from : Result ℕ Stop) (most v next : ℕ) → Octets s → number_from s from most ≡ read v next →
+    (at : ℕ) × (from ≡ Ok at) × Spans s at next (bytes_of v)
+number-took-from s (Ok at) most v next oc e = (at, refl, number-took s at most v next oc e)
+number-took-from s (Err stop) most v next oc e = absurd (not-read stop.why stop.at v next e)

@@ -79,6 +79,10 @@ abbrev pub ◌>>=◌ : {A B E : Type 0} → Result A E → (A → Result B E) �
 (Ok x) >>= go_on = go_on x
 (Err stop) >>= go_on = Err stop
 
+abbrev pub number_from : List ℕ → Result ℕ Stop → ℕ → Result (ℕ × ℕ) Stop
+number_from bytes (Ok at) most = number_at bytes at most
+number_from bytes (Err stop) most = Err stop
+
 -- in the documents' numbers: 0 and where reading goes on, or the refusal's number and the place it speaks of
 abbrev pub told_place : Result ℕ Stop → Told ℕ
 told_place (Ok next) = answered next

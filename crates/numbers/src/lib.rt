@@ -6,6 +6,6 @@ mod reading;
 mod sizes;
 mod writing;
 
-pub use reading::{Stop, next_number};
+pub use reading::{Stop, next_number, number_at};
 pub use sizes::MOST_64;
 pub use writing::{length_of, put_number, put_numbers};

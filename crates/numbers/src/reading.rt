@@ -4,7 +4,7 @@
 // refusal names a place in the whole trace, and callers keep the place between calls.
 ghost use Rattle.std.specs.Prelude.{◌≡◌, ◌≤◌, drop, IfOk};
 ghost use Rattle.numbers.specs.Sizes.{group};
-ghost use Rattle.numbers.specs.Numbers.{number_at};
+ghost use Rattle.numbers.specs.Numbers.{number_at, number_from};
 ghost use Rattle.numbers.specs.code.Groups.{with_group, groups_at, refusal_of, within};
 
 use crate::sizes::{GROUP, HIGH_BIT, MOST_GROUPS, REST_END};
@@ -87,7 +87,7 @@ fn within(at: usize, most: u64, v: u64, next: usize) -> Result<(u64, usize), Sto
 }
 
 // The number at a place, at most `most`, and where the next one begins.
-pub fn next_number(s: &[u8], at: usize, most: u64) -> Result<(u64, usize), Stop>
+pub fn number_at(s: &[u8], at: usize, most: u64) -> Result<(u64, usize), Stop>
     ensures value { result ≡ number_at s.now at most }
     ensures v_le_most { IfOk result (λ r. r.0 ≤ most) }
 {
@@ -109,4 +109,13 @@ pub fn next_number(s: &[u8], at: usize, most: u64) -> Result<(u64, usize), Stop>
             at,
         }),
     }
+}
+
+// The same where reading goes on. Where it has stopped it stays so, and says again why and where: what is read straight
+// through need be looked at once.
+pub fn next_number(s: &[u8], from: Result<usize, Stop>, most: u64) -> Result<(u64, usize), Stop>
+    ensures value { result ≡ number_from s.now from most }
+    ensures v_le_most { IfOk result (λ r. r.0 ≤ most) }
+{
+    number_at(s, from?, most)
 }

@@ -8,7 +8,7 @@ ghost use Rattle.std.proofs.lemmas.List.Edits.{sets};
 ghost use Rattle.numbers.specs.Numbers.{bytes_of, bytes_of_all};
 ghost use Rattle.numbers.specs.Writing.{wrote_of, written_of};
 
-use crate::sizes::GROUP;
+use crate::sizes::{GROUP, MOST_GROUPS};
 use panel::Refusal;
 
 // How many bytes the number takes. By recursion, as its bytes are defined: a loop would keep what is left of v and the
@@ -65,13 +65,20 @@ fn put_all(out: &mut [u8], at: usize, v: &[u64]) -> usize
     to
 }
 
-// Writes a number from `at` on, where there is room for all of it.
-#[tactic(auto, using(crate::proofs::Bytes::all_one))]
+// Writes a number from `at` on, where there is room for all of it. Where there is room for any number it is written
+// straight away: how long this one is need not be known before.
 pub fn put_number(out: &mut [u8], at: usize, v: u64) -> Result<usize, Refusal>
     ensures value { result ≡ wrote_of out.old at (bytes_of v) }
     ensures out_after { out.new ≡ written_of out.old at (bytes_of v) }
 {
-    put_numbers(out, at, &[v])
+    if out.len() < at {
+        return Err(Refusal::Room);
+    }
+    let room = out.len() - at;
+    if room < MOST_GROUPS as usize && room < length_of(v) {
+        return Err(Refusal::Room);
+    }
+    Ok(put(out, at, v))
 }
 
 // Writes numbers one after another from `at` on, where there is room for all of them.

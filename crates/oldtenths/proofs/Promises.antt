@@ -18,6 +18,9 @@ use Rattle.calmap.specs.declared.residuals.Spread.{Spread}
 use Rattle.panel.specs.declared.refusals.Refusal.{Refusal}
 use Rattle.calmap.specs.declared.units.Tenths.{Tenths}
 
+pub old-tenths-unique : (d2 : ℕ) {r s : Tenths} → r ≡ old_tenths_of d2 → s ≡ old_tenths_of d2 → r ≡ s
+old-tenths-unique d2 = one_answer
+
 pub old-dist10-unique : (ax ay bx by : Sixteenths) {r s : Result Tenths Refusal} → r ≡ dist10_by old_tenths_of ax ay bx by → s ≡ dist10_by old_tenths_of ax ay bx by → r ≡ s
 old-dist10-unique ax ay bx by = one_answer
 

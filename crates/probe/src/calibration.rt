@@ -5,9 +5,9 @@
 use crate::ended::Ended;
 use crate::reader::Reader;
 use crate::replies::Reply;
-use calmap::{Cal, Sixteenths};
+use calmap::Sixteenths;
 use numbers::Stop;
-use touchcal::{Fit, Unfit};
+use touchcal::{Fit, Pending, Unfit};
 
 pub(crate) fn apply16(r: &mut Reader<'_>) -> Result<Reply, Ended> {
     let c = r.read()?;
@@ -104,7 +104,7 @@ pub(crate) fn old_fit(r: &mut Reader<'_>) -> Result<Reply, Ended> {
     Ok(fitted(oldtenths::old_fit_of(pairs, n, used, targets.len())))
 }
 
-pub(crate) fn scpi_put(r: &mut Reader<'_>, pending: &mut Option<Cal>) -> Result<Reply, Ended> {
+pub(crate) fn scpi_put(r: &mut Reader<'_>, pending: &mut Pending) -> Result<Reply, Ended> {
     let v = r.read()?;
     match touchcal::scpi_put(pending, v) {
         Ok(()) => Ok(Reply::Put),
@@ -112,6 +112,6 @@ pub(crate) fn scpi_put(r: &mut Reader<'_>, pending: &mut Option<Cal>) -> Result<
     }
 }
 
-pub(crate) fn scpi_take(pending: &mut Option<Cal>) -> Reply {
+pub(crate) fn scpi_take(pending: &mut Pending) -> Reply {
     touchcal::scpi_take(pending).map_or(Reply::NoCal, Reply::Cal)
 }

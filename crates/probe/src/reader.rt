@@ -39,7 +39,7 @@ impl<'a> Reader<'a> {
     fn number(&mut self, most: u64) -> Result<u64, Stop>
         ensures { IfOk result (λ v. v ≤ most) }
     {
-        let (v, next) = numbers::next_number(self.s, self.at, most)?;
+        let (v, next) = numbers::number_at(self.s, self.at, most)?;
         self.at = next;
         Ok(v)
     }

@@ -198,13 +198,18 @@ impl Display for Logged {
 #[derive(Clone, Copy)]
 struct Image(Tracker);
 
+// The digits are looked up and handed on at once: a number printed for each byte costs some 250 instructions.
+const DIGITS: &[u8; 16] = b"0123456789abcdef";
+
 impl Display for Image {
     fn fmt<W: fmt::Write>(&self, f: &mut Formatter<W>) -> fmt::Result {
         let mut area = [0u8; IMAGE_BYTES];
         image::encode(self.0, &mut area).map_err(|_| fmt::Error)?;
-        for b in &area {
-            write!(f, "{b:02x}")?;
+        let mut digits = [0u8; 2 * IMAGE_BYTES];
+        for i in 0..IMAGE_BYTES {
+            digits[2 * i] = DIGITS[usize::from(area[i] / 16)];
+            digits[2 * i + 1] = DIGITS[usize::from(area[i] % 16)];
         }
-        Ok(())
+        f.write_str(str::from_utf8(&digits).map_err(|_| fmt::Error)?)
     }
 }

@@ -3,23 +3,23 @@ use crate::ended::Ended;
 use crate::reader::Reader;
 use crate::replies::Reply;
 use crate::{calibration, geometry, tracker};
-use calmap::Cal;
 use gesture::Tracker;
 use numbers::Stop;
 use panel::Refusal;
+use touchcal::Pending;
 
 // What lives through a run.
 #[derive(Clone, Copy)]
 pub(crate) struct Run {
     tracker: Tracker,
-    pending: Option<Cal>,
+    pending: Pending,
 }
 
 impl Run {
     pub(crate) fn new() -> Run {
         Run {
             tracker: gesture::fresh(),
-            pending: None,
+            pending: touchcal::cleared(),
         }
     }
 

@@ -2,7 +2,7 @@
 -- refuses and no other byte where it writes, which reports are refused and with what number, and that a contract leaves
 -- no second answer. Assumes nothing.
 use Rattle.std.specs.Prelude.{Result, Ok, Err}
-use Prim.Native.Nat.{ℕ, ◌≤◌}
+use Prim.Native.Nat.{ℕ, ◌+◌, ◌*◌, ◌≤◌}
 use mathlib.Core.Bool.{true, false}
 use mathlib.Core.List.{List, [], ◌∷◌, ◌++◌, map}
 use mathlib.Core.Path.{◌≡◌, refl, sym, ap, ◌∙◌}
@@ -24,6 +24,8 @@ use Rattle.panel.specs.Refusals.{Told}
 use Rattle.panel.specs.Tests.{when◌then◌else◌, ◌≤?◌}
 use Rattle.panel.specs.declared.refusals.Refusal.TheVariants.{Room}
 use Rattle.text.specs.Gestures.{gesture_text_of}
+use Rattle.text.specs.Sizes.{line_most}
+use Rattle.trace.specs.Sizes.{most_bytes}
 use Rattle.text.specs.Played.{room_for, played_of, left_of, told_played}
 use Rattle.text.specs.Texts.{lines_from, last_line, printed, text_of}
 use Rattle.text.specs.declared.gestures.GestureText.{GestureText}
@@ -93,3 +95,10 @@ module _ (bytes room : List ℕ) where
 
 pub gesture-text-unique : (g : Gesture) {r s : GestureText} → r ≡ gesture_text_of g → s ≡ gesture_text_of g → r ≡ s
 gesture-text-unique g = one_answer
+
+-- how much of its input a program reads, and the room that it lends for the text
+pub input-most-unique : {r s : ℕ} → r ≡ most_bytes + 1 → s ≡ most_bytes + 1 → r ≡ s
+input-most-unique = one_answer
+
+pub text-most-unique : {r s : ℕ} → r ≡ line_most * (most_bytes + 2) → s ≡ line_most * (most_bytes + 2) → r ≡ s
+text-most-unique = one_answer

@@ -9,4 +9,4 @@ mod playing;
 mod words;
 
 pub use gestures::{GestureText, WORDS_MOST, gesture_text};
-pub use playing::{INPUT_MOST, TEXT_MOST, play};
+pub use playing::{INPUT_MOST, TEXT_MOST, input_most, play, text_most};

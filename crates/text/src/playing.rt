@@ -1,6 +1,7 @@
 // A trace played: its calls made one after the other on a fresh tracker, and their text written.
-ghost use Rattle.std.specs.Prelude.{◌≡◌, ◌≤◌, length};
+ghost use Rattle.std.specs.Prelude.{◌≡◌, ◌+◌, ◌*◌, ◌≤◌, length};
 ghost use Rattle.text.specs.Played.{room_for, played_of, left_of};
+ghost use Rattle.text.specs.Sizes.{line_most};
 ghost use Rattle.text.specs.Texts.{printed};
 ghost use Rattle.text.specs.code.Written.{Written};
 ghost use Rattle.trace.specs.Sizes.{most_bytes};
@@ -17,6 +18,20 @@ pub const INPUT_MOST: u64 = 65_537;
 
 // The longest text of as many bytes: 37 for each of them and for the last line.
 pub const TEXT_MOST: usize = 2_424_906;
+
+// How much of its input a program that plays a trace reads.
+pub fn input_most() -> u64
+    ensures { result ≡ most_bytes + 1 }
+{
+    INPUT_MOST
+}
+
+// The room that it lends for the text.
+pub fn text_most() -> usize
+    ensures { result ≡ line_most * (most_bytes + 2) }
+{
+    TEXT_MOST
+}
 
 // The text of the records from a place on, at the start of the room. Each takes a byte or more, so that there
 // are no more of them than bytes.

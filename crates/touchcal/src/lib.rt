@@ -13,4 +13,4 @@ mod solving;
 pub use fitting::{Fit, Unfit, fit_by, fit_held, fit_of, weigh};
 pub use floats::{CoefPlace, Coefs, from_f32, no_cal, q16, to_f32};
 pub use lists::fit;
-pub use scpi::{scpi_put, scpi_take};
+pub use scpi::{Pending, cleared, scpi_put, scpi_take};

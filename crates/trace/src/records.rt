@@ -2,7 +2,7 @@
 //
 // Bytes and place stand apart, as in numbers: the contracts speak of both (`record_at s.now at`), a refusal names a
 // place in the whole trace, and who plays one keeps the place between calls. Where a number read is narrowed by `as`,
-// next_number keeps it below its most.
+// number_at keeps it below its most.
 ghost use Rattle.std.specs.Prelude.{◌≡◌, ◌≤◌};
 ghost use Rattle.panel.specs.Sizes.{max_points};
 ghost use Rattle.trace.specs.Records.{report_from, tick_from, raw_from, grab_from, of_kind, record_at};
@@ -13,7 +13,7 @@ use crate::sizes::{
     CAPTURE, DIRECT, GRAB, MOST_1, MOST_8, MOST_16, MOST_BYTES, RAW, REPORT, TICK, VERSION,
 };
 use gesture::Call;
-use numbers::{MOST_64, Stop, next_number};
+use numbers::{MOST_64, Stop, number_at};
 use panel::{Event, MAX_POINTS, Point, Refusal, fingers_of};
 
 // A report has this where no point is in use.
@@ -23,8 +23,8 @@ const NOWHERE: Point = Point { x: 0, y: 0 };
 fn point_from(s: &[u8], at: usize) -> Result<(Point, usize), Stop>
     ensures { result ≡ point_from s.now at }
 {
-    let (x, at) = next_number(s, at, MOST_16)?;
-    let (y, at) = next_number(s, at, MOST_16)?;
+    let (x, at) = number_at(s, at, MOST_16)?;
+    let (y, at) = number_at(s, at, MOST_16)?;
     let p = Point {
         x: x as u16,
         y: y as u16,
@@ -71,9 +71,9 @@ fn event_with(keys: u8, count: u8, pts: [Point; MAX_POINTS]) -> Event
 fn report_from(s: &[u8], at: usize) -> Result<(Call, usize), Stop>
     ensures { result ≡ report_from s.now at }
 {
-    let (time, at) = next_number(s, at, MOST_64)?;
-    let (keys, at) = next_number(s, at, MOST_8)?;
-    let (count, at) = next_number(s, at, MOST_8)?;
+    let (time, at) = number_at(s, at, MOST_64)?;
+    let (keys, at) = number_at(s, at, MOST_8)?;
+    let (count, at) = number_at(s, at, MOST_8)?;
     let count = count as u8;
     let (pts, at) = points_from(s, at, fingers_of(count))?;
     Ok((Call::Report(event_with(keys as u8, count, pts), time), at))
@@ -85,7 +85,7 @@ fn report_from(s: &[u8], at: usize) -> Result<(Call, usize), Stop>
 fn tick_from(s: &[u8], at: usize) -> Result<(Call, usize), Stop>
     ensures { result ≡ tick_from s.now at }
 {
-    let (time, at) = next_number(s, at, MOST_64)?;
+    let (time, at) = number_at(s, at, MOST_64)?;
     Ok((Call::Tick(time), at))
 }
 
@@ -93,7 +93,7 @@ fn tick_from(s: &[u8], at: usize) -> Result<(Call, usize), Stop>
 fn raw_from(s: &[u8], at: usize) -> Result<(Call, usize), Stop>
     ensures { result ≡ raw_from s.now at }
 {
-    let (on, at) = next_number(s, at, MOST_1)?;
+    let (on, at) = number_at(s, at, MOST_1)?;
     Ok((Call::RawNext(on == 1), at))
 }
 
@@ -101,7 +101,7 @@ fn raw_from(s: &[u8], at: usize) -> Result<(Call, usize), Stop>
 fn grab_from(s: &[u8], at: usize) -> Result<(Call, usize), Stop>
     ensures { result ≡ grab_from s.now at }
 {
-    let (ms, at) = next_number(s, at, MOST_16)?;
+    let (ms, at) = number_at(s, at, MOST_16)?;
     Ok((Call::SetGrabMs(ms as u16), at))
 }
 
@@ -130,7 +130,7 @@ fn of_kind(s: &[u8], at: usize, kind: u64, fields: usize) -> Result<(Call, usize
 pub fn next_record(s: &[u8], at: usize) -> Result<(Call, usize), Stop>
     ensures { result ≡ record_at s.now at }
 {
-    let (kind, fields) = next_number(s, at, MOST_64)?;
+    let (kind, fields) = number_at(s, at, MOST_64)?;
     of_kind(s, at, kind, fields)
 }
 
@@ -145,7 +145,7 @@ pub fn head(s: &[u8]) -> Result<usize, Stop>
             at: 0,
         });
     }
-    let (v, next) = next_number(s, 0, MOST_64)?;
+    let (v, next) = number_at(s, 0, MOST_64)?;
     if v == VERSION {
         return Ok(next);
     }

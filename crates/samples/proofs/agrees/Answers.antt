@@ -4,7 +4,7 @@ use Rattle.std.proofs.lemmas.List.{length-take-le}
 use Rattle.text.proofs.Promises.{lent}
 use Rattle.samples.proofs.agrees.Goals as goal
 
-pub slice_bounds-eq-end : goal.slice_bounds-eq-end
-slice_bounds-eq-end c =
+pub slice_bounds-holds-end : goal.slice_bounds-holds-end
+slice_bounds-holds-end c =
     let fits = lent _ _ _ _ _ c.in-Ok-play.is (c.play.ensures.value, c.play.ensures.out_after) in
     sym (length-take-le _ _ (omega (arith, fits)))

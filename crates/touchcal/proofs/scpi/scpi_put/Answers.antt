@@ -9,7 +9,7 @@ returns-in_err-from_f32-clause-answer c = search (rules, ← c.from_f32.ensures)
 
 pub returns-in_err-from_f32-clause-after : goal.returns-in_err-from_f32-clause-after
 unfolding put_of
-returns-in_err-from_f32-clause-after c = search (rules, ← c.from_f32.ensures)
+returns-in_err-from_f32-clause-after c = search (rules, ← c.from_f32.ensures, c.cleared.ensures)
 
 pub returns-clause-answer : goal.returns-clause-answer
 unfolding put_of

@@ -1,4 +1,4 @@
--- `numbers::reading::next_number` meets its contract. Assumes nothing.
+-- `numbers::reading::number_at` meets its contract. Assumes nothing.
 use Rattle.std.specs.Prelude.{Ok}
 use Prim.Native.Nat.{ℕ, ◌+◌}
 use mathlib.Core.Path.{sym, ap, ◌∙◌}
@@ -6,7 +6,7 @@ use native.Mathlib.Omega.{arith}
 use Rattle.numbers.specs.Sizes.{most_groups}
 use Rattle.numbers.specs.code.Groups.{judged_as}
 use Rattle.numbers.proofs.Grouping.{last-group, number-here, number-missing, number-most}
-use Rattle.numbers.proofs.reading.next_number.Goals as goal
+use Rattle.numbers.proofs.reading.number_at.Goals as goal
 
 -- one group is all of it
 pub returns-then-b-lt-HIGH_BIT : goal.returns-then-b-lt-HIGH_BIT

@@ -1,0 +1,9 @@
+-- What is read fits the room, and each read that does not end it fills more of it.
+use Rattle.std.proofs.Common.{◌≤◌, ◌-◌, length}
+use Rattle.bench.proofs.read_full.Given as goal
+
+abbrev pub invariant-loop-n : goal.invariant-loop-n
+invariant-loop-n l = l.n ≤ length l.room
+
+abbrev pub decreases-loop-n : goal.decreases-loop-n
+decreases-loop-n l = length l.initial.room - l.n
