@@ -46,8 +46,8 @@ impl Ring {
     }
 }
 
-// The call after one of n, and after the last the first. By index: `held.iter().cycle()` beside the count of calls takes
-// eight instructions a call more, a third of a tick.
+// The call after one of n, and after the last the first. By index, and what is told by reference: by `held.iter().cycle()`
+// beside the count of calls, and by value, a tick took 32 instructions, and it takes 23.
 fn after(at: usize, n: usize) -> usize {
     let next = at.wrapping_add(1);
     if next < n { next } else { 0 }

@@ -21,8 +21,8 @@ pub(crate) fn unruled(image: &Image) -> Result<Tracker, Refusal>
     }
 }
 
-// A tracker that keeps the state rule. Taken into its callers, and by no `then_some`: as a call of its own, or by that, the
-// tracker goes through memory twice more, and a decode takes 300 instructions more.
+// A tracker that keeps the state rule. Taken into its callers, and by no `then_some`: as a call of its own it takes some 200
+// instructions more, by that some 290, since the tracker goes through memory.
 #[tactic(auto, using(panel::proofs::Follow::follow), unfolding(crate::specs::code::Finding::ruled_of))]
 #[inline(always)]
 fn ruled(t: Tracker) -> Result<Tracker, Refusal>
